@@ -1,0 +1,4 @@
+-- The laws about the meaning, from the ground up, and the theorems.
+pub mod Tests
+pub mod Sums
+pub mod Totals

@@ -1,0 +1,5 @@
+-- What weighing's promises cite.
+pub mod Table
+pub mod Links
+pub mod Side
+pub mod Search

@@ -1,0 +1,23 @@
+-- The pair table: 128 by 128 tallies in one flat run. A pair's tally stands once, in the row of its greater bone, so that every table
+-- holds a symmetric tally.
+use Prim.Native.Nat.{ℕ, _+_, _*_, _%_, _^_, min, max}
+use mathlib.Core.List.{List, [], _∷_}
+use lib.ListN.{getD, set}
+use Rattle.meaning.specs.declared.Link.{Link}
+use Rattle.meaning.specs.Tally.{Tally}
+
+-- where the tally of a pair stands
+unfoldable pub spot : ℕ → ℕ → ℕ
+spot i j = max i j * 128 + min i j
+
+-- the tally that a table holds
+unfoldable pub held : List ℕ → Tally
+held t i j = getD t (spot i j) 0
+
+-- the table after one link, and after a run of them, were added to it, the carry of 32 bits thrown away
+unfoldable pub added : List ℕ → Link → List ℕ
+added t l = set t (spot (l .a) (l .b)) ((getD t (spot (l .a) (l .b)) 0 + l .tally) % 2 ^ 32)
+
+unfoldable pub tallied : List ℕ → List Link → List ℕ
+tallied t [] = t
+tallied t (l ∷ ls) = tallied (added t l) ls

@@ -1,0 +1,2 @@
+// Weighing: the pair table, the weight of a side, and the search for a light split.
+mod search;
