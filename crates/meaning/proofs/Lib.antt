@@ -2,3 +2,4 @@
 pub mod Tests
 pub mod Sums
 pub mod Totals
+pub mod Sets

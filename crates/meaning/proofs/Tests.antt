@@ -78,21 +78,39 @@ neqb→ne m n t e = T-not (eqb m n) t (eq→eqb m n e)
 pub ne→neqb : (m n : ℕ) → (m ≡ n → ⊥) → T (not (eqb m n))
 ne→neqb m n f = not-T (eqb m n) (λ t. f (eqb→eq m n t))
 
--- functions of n Bools, the test that all of their values pass, and what it gives at any Bools
-abbrev pub Fun : ℕ → Type 0
-Fun zero = Bool
-Fun (suc n) = Bool → Fun n
+-- a claim: tests that are given, and then a test that follows
+infixr 24 _⊃_
+pub data Claim : Type 0 where
+  so : Bool → Claim
+  _⊃_ : Bool → Claim → Claim
 
-abbrev pub tries : (n : ℕ) → Fun n → Bool
-tries zero f = f
+abbrev pub Holds : Claim → Type 0
+Holds (so b) = T b
+Holds (a ⊃ c) = T a → Holds c
+
+abbrev pub passes : Claim → Bool
+passes (so b) = b
+passes (a ⊃ c) = a ⇒ passes c
+
+-- claims about n Bools, the trial of them all, and what the trial shows of any Bools
+abbrev pub Claims : ℕ → Type 0
+Claims zero = Claim
+Claims (suc n) = Bool → Claims n
+
+abbrev pub tries : (n : ℕ) → Claims n → Bool
+tries zero f = passes f
 tries (suc n) f = tries n (f true) && tries n (f false)
 
-abbrev pub Taut : (n : ℕ) → Fun n → Type 0
-Taut zero f = T f
+abbrev pub Taut : (n : ℕ) → Claims n → Type 0
+Taut zero f = Holds f
 Taut (suc n) f = (a : Bool) → Taut n (f a)
 
-pub taut : (n : ℕ) (f : Fun n) → T (tries n f) → Taut n f
-taut zero f t = t
+passed : (c : Claim) → T (passes c) → Holds c
+passed (so b) t = t
+passed (a ⊃ c) t = λ s. passed c (mp a (passes c) t s)
+
+pub taut : (n : ℕ) (f : Claims n) → T (tries n f) → Taut n f
+taut zero f t = passed f t
 taut (suc n) f t =
     elim [
       | true ↦ taut n (f true) (left-of (tries n (f true)) (tries n (f false)) t)
