@@ -3,3 +3,4 @@ pub mod Tests
 pub mod Sums
 pub mod Totals
 pub mod Sets
+pub mod Firm
