@@ -4,3 +4,4 @@ pub mod Sums
 pub mod Totals
 pub mod Sets
 pub mod Firm
+pub mod Groups
