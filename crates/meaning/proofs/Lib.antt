@@ -5,3 +5,4 @@ pub mod Totals
 pub mod Sets
 pub mod Firm
 pub mod Groups
+pub mod Heaps

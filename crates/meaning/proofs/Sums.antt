@@ -2,10 +2,13 @@
 -- Assumes nothing.
 use Prim.Native.Nat.{ℕ, zero, suc, _+_, _≤_, _<_}
 use mathlib.Core.Path.{_≡_, refl, sym, _∙_, ap, ap₂}
-use native.Mathlib.Nat.{le-refl, lt-of-lt-of-le, zero-add, add-zero, not-suc-le-zero}
-use native.Mathlib.Omega.{arith}
 use mathlib.Core.Logic.{⊎-elim}
-use Rattle.meaning.specs.Count.{sum}
+use mathlib.Core.Bool.{Bool, true, false, cond}
+use native.Mathlib.Nat.{le-refl, not-suc-le-zero, eq-or-lt-of-le, le-of-suc-le-suc}
+use native.Mathlib.Omega.{arith}
+use lib.Dec.{eqb}
+use Rattle.meaning.specs.Count.{Bones, sum, count}
+use Rattle.meaning.proofs.Tests.{is-true, is-false, eq→eqb, ne→neqb}
 
 pub sum-ext : (n : ℕ) (f g : ℕ → ℕ) → ((i : ℕ) → i < n → f i ≡ g i) → sum n f ≡ sum n g
 unfolding sum
@@ -37,4 +40,33 @@ pub sum-term : (n : ℕ) (f : ℕ → ℕ) (i : ℕ) → i < n → f i ≤ sum n
 unfolding sum
 sum-term zero f i h = absurd (not-suc-le-zero h)
 sum-term (suc n) f i h =
-    ⊎-elim (λ e. omega (arith, ap f e)) (λ l. omega (arith, sum-term n f i l)) (native.Mathlib.Nat.eq-or-lt-of-le (native.Mathlib.Nat.le-of-suc-le-suc h))
+    ⊎-elim (λ e. omega (arith, ap f e)) (λ l. omega (arith, sum-term n f i l)) (eq-or-lt-of-le (le-of-suc-le-suc h))
+
+-- a sum of which one term alone is not nought
+pub sum-one : (n m x : ℕ) → m < n → sum n (λ b. cond (eqb b m) x 0) ≡ x
+unfolding sum
+sum-one zero m x h = absurd (not-suc-le-zero h)
+sum-one (suc n) m x h =
+    ⊎-elim
+    (λ e. omega (arith, sum-ext n (λ b. cond (eqb b m) x 0) (λ b. 0) (λ b l. off b (λ q. absurd (omega arith))), sum-zero n, at-last (sym e)))
+    (λ l. omega (arith, sum-one n m x l, off n (λ q. absurd (omega arith))))
+    (eq-or-lt-of-le (le-of-suc-le-suc h))
+  where
+    off : (b : ℕ) → (b ≡ m → ⊥) → cond (eqb b m) x 0 ≡ 0
+    off b f = ap (λ (t : Bool). cond t x 0) (is-false (eqb b m) (ne→neqb b m f))
+
+    at-last : n ≡ m → cond (eqb n m) x 0 ≡ x
+    at-last e = ap (λ (t : Bool). cond t x 0) (is-true (eqb n m) (eq→eqb n m e))
+
+pub count-same : (n : ℕ) (X Y : Bones) → ((b : ℕ) → b < n → X b ≡ Y b) → count n X ≡ count n Y
+unfolding count
+count-same n X Y e = sum-ext n _ _ (λ b h. ap (λ (t : Bool). cond t 1 0) (e b h))
+
+pub count-most : (n : ℕ) (X : Bones) → count n X ≤ n
+unfolding count sum
+count-most zero X = le-refl 0
+count-most (suc n) X = omega (arith, count-most n X, at-most (X n))
+  where
+    at-most : (t : Bool) → cond t 1 0 ≤ 1
+    at-most true = le-refl 1
+    at-most false = omega arith

@@ -4,7 +4,7 @@ use mathlib.Core.Path.{_≡_}
 use mathlib.Core.Bool.{Bool, cond, not, _&&_, _||_}
 use mathlib.Core.List.{List, [], _∷_}
 use lib.Dec.{T, eqb, ltb}
-use Rattle.meaning.specs.Count.{Bones, some, every, least}
+use Rattle.meaning.specs.Count.{Bones, count, some, every, least}
 use Rattle.meaning.specs.Tally.{Tally, total, weight}
 use Rattle.meaning.specs.Firm.{firm}
 
@@ -21,6 +21,10 @@ pile n h p b = ltb b n && eqb (h b) p
 
 unfoldable pub stands : ℕ → Heap → ℕ → Bool
 stands n h p = pile n h p p
+
+-- the number of piles
+unfoldable pub piles : ℕ → Heap → ℕ
+piles n h = count n (stands n h)
 
 -- a cut names a pile, states a weight, and gives the side that moves out
 pub record Cut : Type 0 where
