@@ -11,7 +11,7 @@ use lib.Dec.{T, eqb, leb, leb→le, le→leb, nleb→lt, eqb→eq}
 use Rattle.meaning.specs.Count.{Bones, some, everySet}
 use Rattle.meaning.specs.Tally.{Tally, total, weight}
 use Rattle.meaning.specs.Firm.{splits, firm}
-use Rattle.meaning.proofs.Tests.{both, left-of, right-of, either, decide, _⇒_, imp, taut, so, _⊃_}
+use Rattle.meaning.proofs.Tests.{both, left-of, right-of, either, decide, same-test, _⇒_, imp, taut, so, _⊃_}
 use Rattle.meaning.proofs.Totals.{Symmetric, total-mono, total-ext, total-turn, total-same}
 use Rattle.meaning.proofs.Sets.{Same, some-intro, some-elim, some-same, everySet-intro, everySet-elim, everySet-fails, everySet-same, Looks}
 
@@ -55,6 +55,15 @@ weight-within n w S S′ A s =
     total-mono n w _ _
     (λ i j hi hj. taut 6 (λ si ti sj tj ai aj. (si ⇒ ti) ⊃ (sj ⇒ tj) ⊃ so ((si && ai) && (sj && not aj) ⇒ (ti && ai) && (tj && not aj))) tt
     (S i) (S′ i) (S j) (S′ j) (A i) (A j) (imp (S i) (S′ i) (s i hi)) (imp (S j) (S′ j) (s j hj)))
+
+-- of the side, only what lies in the set counts
+pub weight-inside : (n : ℕ) (w : Tally) (S A : Bones) → weight n w S A ≡ weight n w S (λ b. S b && A b)
+unfolding weight
+weight-inside n w S A =
+    total-ext n w _ _
+    (λ i j hi hj. same-test _ _
+    (taut 4 (λ a x b y. ((a && x) && (b && not y)) ⊃ so ((a && (a && x)) && (b && not (b && y)))) tt (S i) (A i) (S j) (A j))
+    (taut 4 (λ a x b y. ((a && (a && x)) && (b && not (b && y))) ⊃ so ((a && x) && (b && not y))) tt (S i) (A i) (S j) (A j)))
 
 pub splits-intro : (n : ℕ) (S A : Bones) (x y : ℕ) → x < n → y < n → T (S x) → T (A x) → T (S y) → T (not (A y)) → T (splits n S A)
 unfolding splits

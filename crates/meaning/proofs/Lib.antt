@@ -6,3 +6,4 @@ pub mod Sets
 pub mod Firm
 pub mod Groups
 pub mod Heaps
+pub mod Runs

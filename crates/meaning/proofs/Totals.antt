@@ -9,8 +9,8 @@ use native.Mathlib.Omega.{arith}
 use lib.Dec.{T}
 use Rattle.meaning.specs.Count.{sum}
 use Rattle.meaning.specs.Tally.{Tally, total}
-use Rattle.meaning.proofs.Tests.{_⇒_, is-true}
-use Rattle.meaning.proofs.Sums.{sum-ext, sum-mono, sum-add, sum-swap, sum-term}
+use Rattle.meaning.proofs.Tests.{_⇒_, is-true, is-false}
+use Rattle.meaning.proofs.Sums.{sum-ext, sum-mono, sum-zero, sum-add, sum-swap, sum-term}
 
 -- a test of every two bones
 abbrev pub Pairs : Type 0
@@ -89,3 +89,11 @@ unfolding total
 total-turn n w s P =
     sum-swap n n (λ i j. cond (P i j) (w i j) 0)
     ∙ sum-ext n _ _ (λ i hi. sum-ext n _ _ (λ j hj. ap (λ (x : ℕ). cond (P j i) x 0) (s j i)))
+
+-- no pair passes
+pub total-none : (n : ℕ) (w : Tally) (P : Pairs) → ((i j : ℕ) → i < n → j < n → T (not (P i j))) → total n w P ≡ 0
+unfolding total
+total-none n w P f =
+    sum-ext n _ _
+    (λ i hi. sum-ext n _ (λ j. 0) (λ j hj. ap (λ (b : Bool). cond b (w i j) 0) (is-false (P i j) (f i j hi hj))) ∙ sum-zero n)
+    ∙ sum-zero n
