@@ -1,0 +1,71 @@
+-- What the calls promise: the answer, and every lent byte afterwards.
+use Prim.Native.Nat.{ℕ, zero, suc, _*_, _-_}
+use mathlib.Core.Path.{_≡_}
+use mathlib.Core.Bool.{Bool, true, false, cond}
+use mathlib.Core.List.{List, [], _∷_, _++_}
+use lib.Dec.{T, eqb}
+use lib.ListN.{length, take, drop}
+use Rattle.meaning.specs.declared.Link.{Link}
+use Rattle.meaning.specs.declared.Judged.{Judged}
+use Rattle.meaning.specs.declared.Judged.the-variants.{Accepted, Refused}
+use Rattle.meaning.specs.Judge.{first}
+use Rattle.meaning.specs.Tally.{Tally, pairTally}
+use Rattle.meaning.specs.Firm.{label, groups}
+use Rattle.meaning.specs.Heap.{Heap, Cut, start, piles, LawfulRun, left, finished}
+use Rattle.cutting.specs.declared.Answer.{Answer}
+use Rattle.cutting.specs.declared.Answer.the-variants.{Gave, Refused as Refused·answer}
+use Rattle.cutting.specs.declared.Thinned.{Thinned}
+use Rattle.cutting.specs.declared.Thinned.the-variants.{Kept, Refused as Refused·thinned}
+use Rattle.cutting.specs.Record.{entrySize, cutsOf}
+use Rattle.cutting.specs.Rows.{checkingRows, groupingRows, thinningRows}
+
+-- what is left in lent room: as it was where refused
+unfoldable pub settled : Judged → List ℕ → List ℕ → List ℕ
+settled Accepted was new = new
+settled (Refused number place) was new = was
+
+-- the names of bones 0 to n − 1; written to lent room, the rest stays
+unfoldable pub names : ℕ → Heap → List ℕ
+names zero h = []
+names (suc n) h = names n h ++ h n ∷ []
+
+unfoldable pub written : ℕ → Heap → List ℕ → List ℕ
+written n h room = names n h ++ drop n room
+
+-- an answer: the refusal, or a number and whether the run is finished
+unfoldable pub answered : Judged → ℕ → Bool → Answer
+answered Accepted count done = Gave count done
+answered (Refused number place) count done = Refused·answer number place
+
+-- checking: the piles that the record leaves
+pub record Checking (n k : ℕ) (good : Bool) (links : List Link) (bytes labels labels′ : List ℕ) (r : Answer) : Type 0 where
+  pub answer : r ≡ answered (first (checkingRows n k good links bytes (length labels)))
+      (piles n (left n start (cutsOf bytes)))
+      (finished n (pairTally links) k (left n start (cutsOf bytes)))
+  pub names-left : labels′ ≡ settled (first (checkingRows n k good links bytes (length labels))) labels (written n (left n start (cutsOf bytes)) labels)
+
+-- grouping's record: the given entries, then its own, a lawful run and finished; the rest stays
+pub record Continued (n : ℕ) (w : Tally) (k : ℕ) (bytes space space′ : List ℕ) : Type 0 where
+  pub given : take (length bytes) space′ ≡ bytes
+  pub rest : drop (entrySize * (groups n w k - 1)) space′ ≡ drop (entrySize * (groups n w k - 1)) space
+  pub lawful : LawfulRun n w k start (cutsOf (take (entrySize * (groups n w k - 1)) space′))
+  pub done : T (finished n w k (left n start (cutsOf (take (entrySize * (groups n w k - 1)) space′))))
+
+unfoldable pub Recorded : Judged → ℕ → Tally → ℕ → List ℕ → List ℕ → List ℕ → Type 0
+Recorded Accepted n w k bytes space space′ = Continued n w k bytes space space′
+Recorded (Refused number place) n w k bytes space space′ = space′ ≡ space
+
+-- grouping: the groups, their labels, and the record
+pub record Grouping (n k : ℕ) (good : Bool) (links : List Link) (bytes labels labels′ space space′ : List ℕ) (r : Answer) : Type 0 where
+  pub answer : r ≡ answered (first (groupingRows n k good links bytes (length labels) (length space))) (groups n (pairTally links) k) true
+  pub labels-left : labels′ ≡ settled (first (groupingRows n k good links bytes (length labels) (length space))) labels (written n (label n (pairTally links) k) labels)
+  pub record-left : Recorded (first (groupingRows n k good links bytes (length labels) (length space))) n (pairTally links) k bytes space space′
+
+-- thinning: the links whose ends share a group, in order
+unfoldable pub thinned : ℕ → Tally → ℕ → List Link → List Link
+thinned n w k [] = []
+thinned n w k (l ∷ ls) = cond (eqb (label n w k (l .a)) (label n w k (l .b))) (l ∷ thinned n w k ls) (thinned n w k ls)
+
+unfoldable pub keeping : Judged → ℕ → Thinned
+keeping Accepted count = Kept count
+keeping (Refused number place) count = Refused·thinned number place

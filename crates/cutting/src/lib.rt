@@ -1,0 +1,15 @@
+// Cutting: the record of cuts, checking, grouping and thinning, and the calls from C.
+pub mod record;
+
+// What grouping and checking answer: a refusal of the table with its place, or the number of groups (of piles) and whether the run of cuts
+// is finished.
+pub enum Answer {
+    Refused { number: u32, place: u32 },
+    Gave { count: u32, finished: bool },
+}
+
+// What thinning answers: a refusal of the table with its place, or the number of links kept.
+pub enum Thinned {
+    Refused { number: u32, place: u32 },
+    Kept { count: u32 },
+}
