@@ -2,8 +2,11 @@
 pub mod Tests
 pub mod Sums
 pub mod Totals
+pub mod Tallies
 pub mod Sets
 pub mod Firm
 pub mod Groups
 pub mod Heaps
 pub mod Runs
+pub mod Ends
+pub mod Theorems

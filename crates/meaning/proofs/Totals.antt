@@ -8,6 +8,7 @@ use native.Mathlib.Nat.{le-refl, le-trans, le-of-eq}
 use native.Mathlib.Omega.{arith}
 use lib.Dec.{T}
 use Rattle.meaning.specs.Count.{sum}
+pub use Rattle.meaning.specs.Tally.{Symmetric}
 use Rattle.meaning.specs.Tally.{Tally, total}
 use Rattle.meaning.proofs.Tests.{_⇒_, is-true, is-false}
 use Rattle.meaning.proofs.Sums.{sum-ext, sum-mono, sum-zero, sum-add, sum-swap, sum-term}
@@ -80,10 +81,7 @@ total-same n v w P Q e t =
 pub total-ext : (n : ℕ) (w : Tally) (P Q : Pairs) → ((i j : ℕ) → i < n → j < n → P i j ≡ Q i j) → total n w P ≡ total n w Q
 total-ext n w P Q t = total-same n w w P Q (λ i j hi hj. refl) t
 
--- a symmetric tally: the pairs may be turned round
-abbrev pub Symmetric : Tally → Type 0
-Symmetric w = (i j : ℕ) → w i j ≡ w j i
-
+-- of a symmetric tally the pairs may be turned round
 pub total-turn : (n : ℕ) (w : Tally) → Symmetric w → (P : Pairs) → total n w P ≡ total n w (λ i j. P j i)
 unfolding total
 total-turn n w s P =

@@ -1,5 +1,6 @@
 -- Rules 1 and 2: the pair tally of a list of links, and the weight of a split.
 use Prim.Native.Nat.{ℕ, _+_}
+use mathlib.Core.Path.{_≡_}
 use mathlib.Core.Bool.{Bool, cond, not, _&&_, _||_}
 use mathlib.Core.List.{List, [], _∷_}
 use lib.Dec.{eqb}
@@ -9,6 +10,10 @@ use Rattle.meaning.specs.Count.{Bones, sum}
 -- a tally for every two bones
 abbrev pub Tally : Type 0
 Tally = ℕ → ℕ → ℕ
+
+-- the same in either direction
+abbrev pub Symmetric : Tally → Type 0
+Symmetric w = (i j : ℕ) → w i j ≡ w j i
 
 -- the link stands between bones i and j, in either direction of writing
 unfoldable pub joins : Link → ℕ → ℕ → Bool
