@@ -1,0 +1,5 @@
+-- What the texts' promises cite.
+pub mod Frame
+pub mod Lines
+pub mod Reader
+pub mod Writers

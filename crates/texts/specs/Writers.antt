@@ -1,0 +1,78 @@
+-- What the writers write: an input text, a result text, and the frame of a refusal.
+use Prim.Native.Nat.{ℕ, zero, suc, _+_, _*_, _/_, _%_}
+use mathlib.Core.Path.{_≡_}
+use mathlib.Core.Bool.{Bool, true, false}
+use mathlib.Core.List.{List, [], _∷_, _++_}
+use lib.Dec.{ltb}
+use lib.ListN.{length, take, drop}
+use Rattle.meaning.specs.declared.Link.{Link}
+use Rattle.meaning.specs.declared.Judged.{Judged}
+use Rattle.meaning.specs.declared.Judged.the-variants.{Accepted, Refused}
+use Rattle.meaning.specs.Judge.{refuse, first}
+use Rattle.meaning.specs.Tally.{pairTally}
+use Rattle.meaning.specs.Heap.{Heap, start, left}
+use Rattle.weighing.specs.Links.{tableRows}
+use Rattle.cutting.specs.Record.{entrySize, cutsOf}
+use Rattle.cutting.specs.Rows.{recordRow, entriesRows}
+use Rattle.texts.specs.declared.Written.{Written}
+use Rattle.texts.specs.declared.Written.the-variants.{Bytes, Refused as Refused·written}
+use Rattle.texts.specs.Frame.{line}
+use Rattle.texts.specs.Reader.{put}
+
+-- a number in two bytes, high byte first
+unfoldable pub two : ℕ → List ℕ
+two m = m / 256 ∷ m % 256 ∷ []
+
+-- 01 head, 02 links, 03 cuts, 04 labels of bones 0 to n − 1, 06 close, 07 refusal
+unfoldable pub headLine : ℕ → ℕ → List ℕ
+headLine n k = line 1 (n ∷ two k)
+
+unfoldable pub linkLines : List Link → List ℕ
+linkLines [] = []
+linkLines (l ∷ ls) = line 2 (l .a ∷ l .b ∷ two (l .tally)) ++ linkLines ls
+
+unfoldable pub cutLines : ℕ → List ℕ → List ℕ
+cutLines zero bytes = []
+cutLines (suc m) bytes = line 3 (take entrySize bytes) ++ cutLines m (drop entrySize bytes)
+
+unfoldable pub labelLines : ℕ → Heap → List ℕ
+labelLines zero h = []
+labelLines (suc n) h = labelLines n h ++ line 4 (n ∷ h n ∷ [])
+
+unfoldable pub closeLine : ℕ → List ℕ
+closeLine frames = line 6 (two frames)
+
+unfoldable pub refusalLine : ℕ → ℕ → List ℕ
+refusalLine number place = line 7 (number ∷ two place)
+
+-- an input text: head, links, cuts, close
+unfoldable pub inputText : ℕ → ℕ → List Link → List ℕ → List ℕ
+inputText n k links bytes =
+    headLine n k ++ linkLines links ++ cutLines (length bytes / entrySize) bytes ++ closeLine (1 + length links + length bytes / entrySize)
+
+-- a result text: head, the record's cuts, the pile names that they leave, close
+unfoldable pub resultText : ℕ → ℕ → List ℕ → List ℕ
+resultText n k bytes =
+    headLine n k ++ cutLines (length bytes / entrySize) bytes ++ labelLines n (left n start (cutsOf bytes)) ++ closeLine (1 + length bytes / entrySize + n)
+
+-- what each writer tries: 1 to 6, 9 (and 10 to 13), 20
+unfoldable pub inputRows : ℕ → ℕ → List Link → List ℕ → ℕ → List Judged
+inputRows n k links bytes room =
+    tableRows n k true links ++ recordRow n bytes ∷ refuse (ltb room (length (inputText n k links bytes))) 20 0 ∷ []
+
+unfoldable pub resultRows : ℕ → ℕ → List Link → List ℕ → ℕ → List Judged
+resultRows n k links bytes room =
+    tableRows n k true links
+    ++ recordRow n bytes
+    ∷ entriesRows n (pairTally links) k start 0 (cutsOf bytes)
+    ++ refuse (ltb room (length (resultText n k bytes))) 20 0
+    ∷ []
+
+unfoldable pub wrote : Judged → ℕ → Written
+wrote Accepted count = Bytes count
+wrote (Refused number place) count = Refused·written number place
+
+-- a writer with those rows, that text and that room
+pub record Writes (rows : Judged) (text room room′ : List ℕ) (r : Written) : Type 0 where
+  pub answer : r ≡ wrote rows (length text)
+  pub text-left : room′ ≡ put rows text room
