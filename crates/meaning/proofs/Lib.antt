@@ -10,3 +10,4 @@ pub mod Heaps
 pub mod Runs
 pub mod Ends
 pub mod Theorems
+pub mod Cases

@@ -4,3 +4,4 @@ pub mod Tally
 pub mod Firm
 pub mod Heap
 pub mod Judge
+pub mod Cases
