@@ -95,7 +95,7 @@ row-tests c ms =
 table-test : List Case → List (List Move) → Bool
 table-test [] r = true
 table-test (c ∷ cs) [] = false
-table-test (c ∷ cs) (ms ∷ r) = all (row-tests c ms) && table-test cs r
+table-test (c ∷ cs) (ms ∷ r) = let rest = table-test cs r in all (row-tests c ms) && rest
 
 abbrev move : ℕ → List ℕ → Move
 move p xs = record { pile-name = p; moved = xs }
@@ -157,14 +157,12 @@ module _ (n : ℕ) (w : Tally) (t : Thresholds) (k : ℕ) (a : At t k) where
       (λ p l. let S = pile n h p in
       taut 3 (λ s x y. (x ⇒ y) ⊃ (not s || x) ⊃ so (not s || y)) tt (stands n h p) (firm-test n w t S) (firm n w k S) (imp (firm-test n w t S) (firm n w k S) (firm-at S)) (every-elim n _ u p l))
 
-Each : List Bool → Type 0
-Each [] = Unit {0}
-Each (b ∷ bs) = T b × Each bs
-
-each : (bs : List Bool) → T (all bs) → Each bs
-unfolding all Each
-each [] t = tt
-each (b ∷ bs) t = (left-of b (all bs) t, each bs (right-of b (all bs) t))
+-- where all tests of a list pass, each does
+passed : (bs : List Bool) → T (all bs) → (i : ℕ) → T (getD bs i true)
+unfolding all
+passed [] t i = tt
+passed (b ∷ bs) t zero = left-of b (all bs) t
+passed (b ∷ bs) t (suc i) = passed bs (right-of b (all bs) t) i
 
 inside-at : (X : Bones) (xs : List ℕ) → T (inside X xs) → (b : ℕ) → T (among xs b) → T (X b)
 unfolding inside among
@@ -176,16 +174,16 @@ inside-at X (x ∷ xs) t b u =
     (either (eqb b x) (among xs b) u)
 
 cut-lawful : (n : ℕ) (w : Tally) (t : Thresholds) (k : ℕ) → At t k → (h : Heap) (m : Move) → T (all (cut-tests n w t h m)) → Lawful n w k h (cut n w h m)
-unfolding cut-tests cut Each
+unfolding cut-tests cut
 cut-lawful n w t k a h m u =
-    let r = each (cut-tests n w t h m) u in
+    let test = passed (cut-tests n w t h m) u in
     record {
-      standing = r .0;
-      moving = r .1 .0;
-      staying = r .1 .1 .0;
-      within = inside-at (pile n h (m .pile-name)) (m .moved) (r .1 .1 .1 .0);
+      standing = test 0;
+      moving = test 1;
+      staying = test 2;
+      within = inside-at (pile n h (m .pile-name)) (m .moved) (test 3);
       true-weight = refl;
-      light = light-at t k _ a (r .1 .1 .1 .1 .0);
+      light = light-at t k _ a (test 4);
     }
 
 run-lawful : (n : ℕ) (w : Tally) (t : Thresholds) (k : ℕ) → At t k → (ms : List Move) (h : Heap) → T (run-test n w t h ms) → LawfulRun n w k h (run n w h ms)
@@ -230,27 +228,27 @@ abbrev Claimed : Case → ℕ → Type 0
 Claimed c k = Settled (c .bones) (pairTally (c .links)) k (c .labels) (c .number) (c .cut-sum)
 
 row-settled : (c : Case) (ms : List Move) → T (all (row-tests c ms)) → (k : ℕ) → At (c .thresholds) k → Claimed c k
-unfolding row-tests Each finished
+unfolding row-tests
 row-settled c ms u k a =
     let n = c .bones in
     let w = pairTally (c .links) in
     let t = c .thresholds in
     let cs = run n w start ms in
     let h = left n start cs in
-    let r = each (row-tests c ms) u in
-    let law : LawfulRun n w k start cs = run-lawful n w t k a ms start (r .1 .1 .1 .1 .1 .0) in
-    let done : T (finished n w k h) = finished-at n w t k a h (r .1 .1 .1 .1 .1 .1 .0) in
-    let number : groups n w k ≡ c .number = sym (run-groups n w k cs law done) ∙ eqb→eq (piles n h) (c .number) (r .1 .1 .1 .0) in
+    let test = passed (row-tests c ms) u in
+    let law : LawfulRun n w k start cs = run-lawful n w t k a ms start (test 5) in
+    let done : T (finished n w k h) = finished-at n w t k a h (test 6) in
+    let number : groups n w k ≡ c .number = sym (run-groups n w k cs law done) ∙ eqb→eq (piles n h) (c .number) (test 3) in
     record {
-      each-bone = eqb→eq (length (c .labels)) n (r .1 .0);
-      labelled = λ b l. sym (run-names n w k cs law done b l) ∙ eqb→eq (h b) (getD (c .labels) b n) (every-elim n _ (r .1 .1 .0) b l);
+      each-bone = eqb→eq (length (c .labels)) n (test 1);
+      labelled = λ b l. sym (run-names n w k cs law done b l) ∙ eqb→eq (h b) (getD (c .labels) b n) (every-elim n _ (test 2) b l);
       grouped = number;
       a-run = (cs, record { lawful = law; done = done });
       every-run = λ ds f. (
-        run-cuts n w k ds (f .lawful) (f .done) (ltb→lt 0 n (r .0)) ∙ number,
+        run-cuts n w k ds (f .lawful) (f .done) (ltb→lt 0 n (test 0)) ∙ number,
         run-weights n w k ds (f .lawful) (f .done) (pairTally-turn (c .links))
             ∙ sym (run-weights n w k cs law done (pairTally-turn (c .links)))
-            ∙ eqb→eq (weights cs) (c .cut-sum) (r .1 .1 .1 .1 .0),
+            ∙ eqb→eq (weights cs) (c .cut-sum) (test 4),
       );
     }
 
