@@ -1,25 +1,22 @@
--- The bench cases marked P, by one test that the checker computes over the table, and one law that turns it into what each row claims. A row
--- is tested on a run of cuts: every cut lawful, the names that it leaves the row's, every pile firm.
+-- The bench cases marked P: a test that the checker computes over the table, and one law that turns it into what each row claims. A row is
+-- tested on a run of cuts: each is lawful, the names that they leave are the row's labels, and every pile is firm.
 -- Assumes nothing.
 use Prim.Native.Nat.{ℕ, zero, suc, _+_, _≤_, _<_}
-use mathlib.Core.Path.{_≡_, refl, sym, _∙_, ap, ap₂, subst}
-use mathlib.Core.Logic.{⊎-elim, inl, inr}
-use mathlib.Core.Bool.{Bool, true, false, cond, not, _&&_, _||_}
-use mathlib.Core.List.{List, [], _∷_, List·Memᴰ, List·Memᴰ·head, List·Memᴰ·tail, List·Memᴰ·cases-cons, List·Memᴰ·not-nil}
-use native.Mathlib.Omega.{arith}
-use lib.Dec.{T, eqb, leb, ltb, eqb→eq, leb→le, le→leb, ltb→lt, lt→ltb}
+use mathlib.Core.Path.{_≡_, refl, sym, _∙_, subst}
+use mathlib.Core.Logic.{⊎-elim}
+use mathlib.Core.Bool.{Bool, true, false, not, _&&_, _||_}
+use mathlib.Core.List.{List, [], _∷_, List·Memᴰ, List·Memᴰ·cases-cons, List·Memᴰ·not-nil}
+use lib.Dec.{T, eqb, leb, ltb, eqb→eq, leb→le, le→leb, ltb→lt}
 use lib.ListN.{length, getD}
-use Rattle.meaning.specs.declared.Link.{Link}
-use Rattle.meaning.specs.Count.{Bones, sum, count, some, every, least, everySet}
+use Rattle.meaning.specs.Count.{Bones, sum, some, every, least, everySet}
 use Rattle.meaning.specs.Tally.{Tally, joins, pairTally, total, weight}
 use Rattle.meaning.specs.Firm.{splits, firm, label, groups}
-use Rattle.meaning.specs.Heap.{Heap, start, pile, stands, piles, Cut, Lawful, parted, LawfulRun, left, weights, between, finished}
-use Rattle.meaning.specs.Cases.{Thresholds, only, any, At, Case, FinishedRun, Settled, Bench, triangles, three-paths, cases}
+use Rattle.meaning.specs.Heap.{Heap, start, pile, stands, Cut, Lawful, parted, LawfulRun, left, weights, finished}
+use Rattle.meaning.specs.Cases.{Settled, Thresholds, only, any, At, Case, triangles, three-paths, cases, Bench}
 use Rattle.meaning.proofs.Tests.{both, left-of, right-of, either, _⇒_, imp, taut, so, _⊃_}
-use Rattle.meaning.proofs.Totals.{Symmetric}
 use Rattle.meaning.proofs.Sets.{every-intro, every-elim}
-use Rattle.meaning.proofs.Heaps.{named-start}
-use Rattle.meaning.proofs.Runs.{Reached, reached-start, reached-left, piles-left, piles-groups, piles-start, between-left, between-labels, between-start, finished-labels}
+use Rattle.meaning.proofs.Tallies.{pairTally-symmetric}
+use Rattle.meaning.proofs.Ends.{names-are-labels, cuts-and-groups, weights-between}
 
 -- ---- the test
 
@@ -39,11 +36,6 @@ firm-test n w t S = everySet n (λ A. not (splits n S A) || heavy t (weight n w 
 finished-test : ℕ → Tally → Thresholds → Heap → Bool
 finished-test n w t h = every n (λ p. not (stands n h p) || firm-test n w t (pile n h p))
 
--- every test of a list
-all : List Bool → Bool
-all [] = true
-all (b ∷ bs) = b && all bs
-
 -- the bones of a list; whether all of them are in a set
 among : List ℕ → Bones
 among [] b = false
@@ -53,19 +45,27 @@ inside : Bones → List ℕ → Bool
 inside X [] = true
 inside X (x ∷ xs) = X x && inside X xs
 
--- a cut by the pile that it names and the bones that it moves: its weight is the split's
+-- a cut by the pile that it names and the bones that it moves; as a cut of a heap it states their weight there
 record Move : Type 0 where
   pub pile-name : ℕ
   pub moved : List ℕ
 
+abbrev move : ℕ → List ℕ → Move
+move p xs = record { pile-name = p; moved = xs }
+
 cut : ℕ → Tally → Heap → Move → Cut
 cut n w h m = record { name = m .pile-name; weighs = weight n w (pile n h (m .pile-name)) (among (m .moved)); side = among (m .moved) }
 
-run : ℕ → Tally → Heap → List Move → List Cut
-run n w h [] = []
-run n w h (m ∷ ms) = cut n w h m ∷ run n w (parted n h (cut n w h m)) ms
+cuts : ℕ → Tally → Heap → List Move → List Cut
+cuts n w h [] = []
+cuts n w h (m ∷ ms) = cut n w h m ∷ cuts n w (parted n h (cut n w h m)) ms
 
--- what a lawful cut asks
+-- every test of a list passes
+all : List Bool → Bool
+all [] = true
+all (b ∷ bs) = b && all bs
+
+-- the tests of a cut, of a run, of a row and its run, and of the table
 cut-tests : ℕ → Tally → Thresholds → Heap → Move → List Bool
 cut-tests n w t h m =
     let p = m .pile-name in
@@ -76,33 +76,30 @@ run-test : ℕ → Tally → Thresholds → Heap → List Move → Bool
 run-test n w t h [] = true
 run-test n w t h (m ∷ ms) = all (cut-tests n w t h m) && run-test n w t (parted n h (cut n w h m)) ms
 
--- what a row asks of a run that shows it
 row-tests : Case → List Move → List Bool
 row-tests c ms =
     let n = c .bones in
     let w = pairTally (c .links) in
-    let cs = run n w start ms in
+    let cs = cuts n w start ms in
     let h = left n start cs in
     ltb 0 n
     ∷ eqb (length (c .labels)) n
     ∷ every n (λ b. eqb (h b) (getD (c .labels) b n))
-    ∷ eqb (piles n h) (c .number)
+    ∷ eqb (length cs + 1) (c .number)
     ∷ eqb (weights cs) (c .cut-sum)
     ∷ run-test n w (c .thresholds) start ms
     ∷ finished-test n w (c .thresholds) h
     ∷ []
 
+-- the `let` waits: a row that fails stops the test
 table-test : List Case → List (List Move) → Bool
-table-test [] r = true
+table-test [] runs = true
 table-test (c ∷ cs) [] = false
-table-test (c ∷ cs) (ms ∷ r) = let rest = table-test cs r in all (row-tests c ms) && rest
+table-test (c ∷ cs) (ms ∷ runs) = let rest = table-test cs runs in all (row-tests c ms) && rest
 
-abbrev move : ℕ → List ℕ → Move
-move p xs = record { pile-name = p; moved = xs }
-
--- a run for each row of the table
-runs : List (List Move)
-runs =
+-- a run for each row
+case-runs : List (List Move)
+case-runs =
     []
     ∷ (move 0 (1 ∷ []) ∷ [])
     ∷ []
@@ -117,152 +114,125 @@ runs =
     ∷ (move 0 (2 ∷ []) ∷ move 0 (3 ∷ []) ∷ move 0 (4 ∷ []) ∷ move 0 (1 ∷ []) ∷ [])
     ∷ []
 
-computed : T (table-test cases runs)
-unfolding table-test row-tests run-test cut-tests all cases runs triangles three-paths heavy light firm-test finished-test among inside cut run pairTally joins total weight sum count some every least everySet splits start pile stands piles parted left weights
+computed : T (table-test cases case-runs)
+unfolding table-test row-tests run-test cut-tests all cases case-runs triangles three-paths heavy light firm-test finished-test among inside cut cuts pairTally joins total weight sum some every least everySet splits start pile stands parted left weights
 computed = tt
 
 -- ---- what the test shows
 
+-- where all tests of a list pass, each does
+passed : (bs : List Bool) → T (all bs) → (i : ℕ) → T (getD bs i true)
+unfolding all
+passed [] u i = tt
+passed (b ∷ bs) u zero = left-of b (all bs) u
+passed (b ∷ bs) u (suc i) = passed bs (right-of b (all bs) u) i
+
 heavy-at : (t : Thresholds) (k m : ℕ) → At t k → T (heavy t m) → k ≤ m
 unfolding At heavy
-heavy-at (only t) k m e h = subst (λ (x : ℕ). x ≤ m) (sym e) (leb→le t m h)
-heavy-at any k m e h = absurd h
+heavy-at (only t) k m e u = subst (λ (x : ℕ). x ≤ m) (sym e) (leb→le t m u)
+heavy-at any k m e u = absurd u
 
 light-at : (t : Thresholds) (k m : ℕ) → At t k → T (light t m) → m < k
 unfolding At light
-light-at (only t) k m e h = subst (λ (x : ℕ). m < x) (sym e) (ltb→lt m t h)
-light-at any k m e h = absurd h
+light-at (only t) k m e u = subst (λ (x : ℕ). m < x) (sym e) (ltb→lt m t u)
+light-at any k m e u = absurd u
 
+inside-at : (X : Bones) (xs : List ℕ) → T (inside X xs) → (b : ℕ) → T (among xs b) → T (X b)
+unfolding inside among
+inside-at X [] u b v = absurd v
+inside-at X (x ∷ xs) u b v =
+    ⊎-elim
+    (λ e. subst (λ (y : ℕ). T (X y)) (sym (eqb→eq b x e)) (left-of (X x) (inside X xs) u))
+    (λ r. inside-at X xs (right-of (X x) (inside X xs) u) b r)
+    (either (eqb b x) (among xs b) v)
+
+-- a test of every set that asks less passes too
 everySet-mono : (n : ℕ) (P Q : Bones → Bool) → ((X : Bones) → T (P X) → T (Q X)) → T (everySet n P) → T (everySet n Q)
 unfolding everySet
-everySet-mono zero P Q f t = f (λ b. false) t
-everySet-mono (suc n) P Q f t =
+everySet-mono zero P Q f u = f (λ b. false) u
+everySet-mono (suc n) P Q f u =
     let with-n : (Bones → Bool) → Bones → Bool = λ R X. R (λ b. eqb b n || X b) in
     both (everySet n Q) (everySet n (with-n Q))
-    (everySet-mono n P Q f (left-of (everySet n P) (everySet n (with-n P)) t))
-    (everySet-mono n (with-n P) (with-n Q) (λ X. f (λ b. eqb b n || X b)) (right-of (everySet n P) (everySet n (with-n P)) t))
+    (everySet-mono n P Q f (left-of (everySet n P) (everySet n (with-n P)) u))
+    (everySet-mono n (with-n P) (with-n Q) (λ X. f (λ b. eqb b n || X b)) (right-of (everySet n P) (everySet n (with-n P)) u))
+
+weaker : (s x y : Bool) → (T x → T y) → T (not s || x) → T (not s || y)
+weaker s x y f = taut 3 (λ s x y. (x ⇒ y) ⊃ (not s || x) ⊃ so (not s || y)) tt s x y (imp x y f)
 
 module _ (n : ℕ) (w : Tally) (t : Thresholds) (k : ℕ) (a : At t k) where
   firm-at : (S : Bones) → T (firm-test n w t S) → T (firm n w k S)
   unfolding firm-test firm
   firm-at S =
       everySet-mono n _ _
-      (λ A u. let m = weight n w S A in
-      taut 3 (λ s x y. (x ⇒ y) ⊃ (not s || x) ⊃ so (not s || y)) tt (splits n S A) (heavy t m) (leb k m) (imp (heavy t m) (leb k m) (λ x. le→leb k m (heavy-at t k m a x))) u)
+      (λ A. let m = weight n w S A in weaker (splits n S A) (heavy t m) (leb k m) (λ u. le→leb k m (heavy-at t k m a u)))
 
   finished-at : (h : Heap) → T (finished-test n w t h) → T (finished n w k h)
   unfolding finished-test finished
   finished-at h u =
       every-intro n _
-      (λ p l. let S = pile n h p in
-      taut 3 (λ s x y. (x ⇒ y) ⊃ (not s || x) ⊃ so (not s || y)) tt (stands n h p) (firm-test n w t S) (firm n w k S) (imp (firm-test n w t S) (firm n w k S) (firm-at S)) (every-elim n _ u p l))
+      (λ p l. let S = pile n h p in weaker (stands n h p) (firm-test n w t S) (firm n w k S) (firm-at S) (every-elim n _ u p l))
 
--- where all tests of a list pass, each does
-passed : (bs : List Bool) → T (all bs) → (i : ℕ) → T (getD bs i true)
-unfolding all
-passed [] t i = tt
-passed (b ∷ bs) t zero = left-of b (all bs) t
-passed (b ∷ bs) t (suc i) = passed bs (right-of b (all bs) t) i
+  cut-lawful : (h : Heap) (m : Move) → T (all (cut-tests n w t h m)) → Lawful n w k h (cut n w h m)
+  unfolding cut-tests cut
+  cut-lawful h m u =
+      let test = passed (cut-tests n w t h m) u in
+      record {
+        standing = test 0;
+        moving = test 1;
+        staying = test 2;
+        within = inside-at (pile n h (m .pile-name)) (m .moved) (test 3);
+        true-weight = refl;
+        light = light-at t k _ a (test 4);
+      }
 
-inside-at : (X : Bones) (xs : List ℕ) → T (inside X xs) → (b : ℕ) → T (among xs b) → T (X b)
-unfolding inside among
-inside-at X [] t b u = absurd u
-inside-at X (x ∷ xs) t b u =
-    ⊎-elim
-    (λ e. subst (λ (y : ℕ). T (X y)) (sym (eqb→eq b x e)) (left-of (X x) (inside X xs) t))
-    (λ v. inside-at X xs (right-of (X x) (inside X xs) t) b v)
-    (either (eqb b x) (among xs b) u)
-
-cut-lawful : (n : ℕ) (w : Tally) (t : Thresholds) (k : ℕ) → At t k → (h : Heap) (m : Move) → T (all (cut-tests n w t h m)) → Lawful n w k h (cut n w h m)
-unfolding cut-tests cut
-cut-lawful n w t k a h m u =
-    let test = passed (cut-tests n w t h m) u in
-    record {
-      standing = test 0;
-      moving = test 1;
-      staying = test 2;
-      within = inside-at (pile n h (m .pile-name)) (m .moved) (test 3);
-      true-weight = refl;
-      light = light-at t k _ a (test 4);
-    }
-
-run-lawful : (n : ℕ) (w : Tally) (t : Thresholds) (k : ℕ) → At t k → (ms : List Move) (h : Heap) → T (run-test n w t h ms) → LawfulRun n w k h (run n w h ms)
-unfolding run-test run LawfulRun
-run-lawful n w t k a [] h u = tt
-run-lawful n w t k a (m ∷ ms) h u =
-    let rest = run-test n w t (parted n h (cut n w h m)) ms in (
-      cut-lawful n w t k a h m (left-of (all (cut-tests n w t h m)) rest u),
-      run-lawful n w t k a ms (parted n h (cut n w h m)) (right-of (all (cut-tests n w t h m)) rest u),
-    )
-
--- a link stands between two bones whichever is named first
-pub pairTally-turn : (ls : List Link) → Symmetric (pairTally ls)
-unfolding pairTally joins
-pairTally-turn [] i j = refl
-pairTally-turn (l ∷ ls) i j =
-    ap₂ (λ (x : Bool) (m : ℕ). cond x (l .tally) 0 + m) (or-turn (eqb (l .a) i && eqb (l .b) j) (eqb (l .a) j && eqb (l .b) i)) (pairTally-turn ls i j)
-  where
-    or-turn : (x y : Bool) → x || y ≡ y || x
-    or-turn true true = refl
-    or-turn true false = refl
-    or-turn false true = refl
-    or-turn false false = refl
-
--- a finished run of lawful cuts: the names it leaves, the number of its cuts, and what they sum to
-module _ (n : ℕ) (w : Tally) (k : ℕ) (cs : List Cut) (law : LawfulRun n w k start cs) (done : T (finished n w k (left n start cs))) where
-  run-names : (b : ℕ) → b < n → left n start cs b ≡ label n w k b
-  run-names = finished-labels n w k (left n start cs) (reached-left n w k cs start law (reached-start n w k)) done
-
-  run-groups : piles n (left n start cs) ≡ groups n w k
-  run-groups = piles-groups n w k (left n start cs) run-names
-
-  run-cuts : 0 < n → length cs + 1 ≡ groups n w k
-  run-cuts l = omega (arith, run-groups, piles-left n w k cs start law (named-start n), piles-start n l)
-
-  run-weights : Symmetric w → weights cs ≡ between n w (label n w k)
-  run-weights s =
-      omega (arith, between-labels n w k (left n start cs) run-names, between-left n w k s cs start law (named-start n), between-start n w)
+  run-lawful : (ms : List Move) (h : Heap) → T (run-test n w t h ms) → LawfulRun n w k h (cuts n w h ms)
+  unfolding run-test cuts LawfulRun
+  run-lawful [] h u = tt
+  run-lawful (m ∷ ms) h u =
+      let one = all (cut-tests n w t h m) in
+      let rest = run-test n w t (parted n h (cut n w h m)) ms in
+      (cut-lawful h m (left-of one rest u), run-lawful ms (parted n h (cut n w h m)) (right-of one rest u))
 
 -- what the table claims of a row
-abbrev Claimed : Case → ℕ → Type 0
-Claimed c k = Settled (c .bones) (pairTally (c .links)) k (c .labels) (c .number) (c .cut-sum)
+abbrev Claimed : Case → Type 0
+Claimed c = (k : ℕ) → At (c .thresholds) k → Settled (c .bones) (pairTally (c .links)) k (c .labels) (c .number) (c .cut-sum)
 
-row-settled : (c : Case) (ms : List Move) → T (all (row-tests c ms)) → (k : ℕ) → At (c .thresholds) k → Claimed c k
+row-settled : (c : Case) (ms : List Move) → T (all (row-tests c ms)) → Claimed c
 unfolding row-tests
 row-settled c ms u k a =
     let n = c .bones in
     let w = pairTally (c .links) in
-    let t = c .thresholds in
-    let cs = run n w start ms in
+    let s = pairTally-symmetric (c .links) in
+    let cs = cuts n w start ms in
     let h = left n start cs in
     let test = passed (row-tests c ms) u in
-    let law : LawfulRun n w k start cs = run-lawful n w t k a ms start (test 5) in
-    let done : T (finished n w k h) = finished-at n w t k a h (test 6) in
-    let number : groups n w k ≡ c .number = sym (run-groups n w k cs law done) ∙ eqb→eq (piles n h) (c .number) (test 3) in
+    let some-bone : 0 < n = ltb→lt 0 n (test 0) in
+    let run : LawfulRun n w k start cs = run-lawful n w (c .thresholds) k a ms start (test 5) in
+    let done : T (finished n w k h) = finished-at n w (c .thresholds) k a h (test 6) in
+    let number : groups n w k ≡ c .number = sym (cuts-and-groups n w k some-bone cs run done) ∙ eqb→eq (length cs + 1) (c .number) (test 3) in
     record {
       each-bone = eqb→eq (length (c .labels)) n (test 1);
-      labelled = λ b l. sym (run-names n w k cs law done b l) ∙ eqb→eq (h b) (getD (c .labels) b n) (every-elim n _ (test 2) b l);
+      labelled = λ b l. sym (names-are-labels n w k cs run .1 done b l) ∙ eqb→eq (h b) (getD (c .labels) b n) (every-elim n _ (test 2) b l);
       grouped = number;
-      a-run = (cs, record { lawful = law; done = done });
-      every-run = λ ds f. (
-        run-cuts n w k ds (f .lawful) (f .done) (ltb→lt 0 n (test 0)) ∙ number,
-        run-weights n w k ds (f .lawful) (f .done) (pairTally-turn (c .links))
-            ∙ sym (run-weights n w k cs law done (pairTally-turn (c .links)))
-            ∙ eqb→eq (weights cs) (c .cut-sum) (test 4),
+      a-run = (cs, run, done);
+      every-run = λ ds r f. (
+        cuts-and-groups n w k some-bone ds r f ∙ number,
+        weights-between n w k s ds r f ∙ sym (weights-between n w k s cs run done) ∙ eqb→eq (weights cs) (c .cut-sum) (test 4),
       );
     }
 
-table-settled : (cs : List Case) (rs : List (List Move)) → T (table-test cs rs) → (c : Case) → List·Memᴰ c cs → (k : ℕ) → At (c .thresholds) k → Claimed c k
+table-settled : (cs : List Case) (runs : List (List Move)) → T (table-test cs runs) → (c : Case) → List·Memᴰ c cs → Claimed c
 unfolding table-test
-table-settled [] rs u c i = absurd (List·Memᴰ·not-nil i)
+table-settled [] runs u c i = absurd (List·Memᴰ·not-nil i)
 table-settled (d ∷ cs) [] u c i = absurd u
-table-settled (d ∷ cs) (ms ∷ rs) u c i =
-    let first = all (row-tests d ms) in
+table-settled (d ∷ cs) (ms ∷ runs) u c i =
+    let one = all (row-tests d ms) in
+    let rest = table-test cs runs in
     ⊎-elim
-    (λ e. subst (λ (x : Case). (k : ℕ) → At (x .thresholds) k → Claimed x k) (sym e) (row-settled d ms (left-of first (table-test cs rs) u)))
-    (λ j. table-settled cs rs (right-of first (table-test cs rs) u) c j)
+    (λ e. subst Claimed (sym e) (row-settled d ms (left-of one rest u)))
+    (λ j. table-settled cs runs (right-of one rest u) c j)
     (List·Memᴰ·cases-cons i)
 
 pub bench : Bench
 unfolding Bench
-bench = table-settled cases runs computed
+bench = table-settled cases case-runs computed

@@ -9,19 +9,14 @@ use Rattle.meaning.specs.Tally.{Tally, pairTally}
 use Rattle.meaning.specs.Firm.{label, groups}
 use Rattle.meaning.specs.Heap.{start, Cut, LawfulRun, left, weights, finished}
 
--- cs is a run of lawful cuts from the start, and finished
-pub record FinishedRun (n : ℕ) (w : Tally) (k : ℕ) (cs : List Cut) : Type 0 where
-  pub lawful : LawfulRun n w k start cs
-  pub done : T (finished n w k (left n start cs))
-
--- what a row claims: the bones' labels in order, and the number of groups; that there is a finished run; and that every finished run,
--- whichever cuts it took, has one cut fewer than there are groups, and they sum to the number given
+-- what a row claims: the bones' labels in order, and the number of groups; that there is a finished run of lawful cuts; and that every such
+-- run, whichever cuts it took, has one cut fewer than there are groups, and they sum to the number given
 pub record Settled (n : ℕ) (w : Tally) (k : ℕ) (labels : List ℕ) (number cut-sum : ℕ) : Type 0 where
   pub each-bone : length labels ≡ n
   pub labelled : (b : ℕ) → b < n → label n w k b ≡ getD labels b n
   pub grouped : groups n w k ≡ number
-  pub a-run : (cs : List Cut) × FinishedRun n w k cs
-  pub every-run : (cs : List Cut) → FinishedRun n w k cs → (length cs + 1 ≡ number) × (weights cs ≡ cut-sum)
+  pub a-run : (cs : List Cut) × LawfulRun n w k start cs × T (finished n w k (left n start cs))
+  pub every-run : (cs : List Cut) → LawfulRun n w k start cs → T (finished n w k (left n start cs)) → (length cs + 1 ≡ number) × (weights cs ≡ cut-sum)
 
 -- a row's thresholds: one, or any at all
 pub data Thresholds : Type 0 where
