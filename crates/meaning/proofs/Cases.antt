@@ -1,40 +1,37 @@
 -- The bench cases marked P: a test that the checker computes over the table, and one law that turns it into what each row claims. A row is
 -- tested on a run of cuts: each is lawful, the names that they leave are the row's labels, and every pile is firm.
 -- Assumes nothing.
-use Prim.Native.Nat.{ℕ, zero, suc, _+_, _≤_, _<_}
-use mathlib.Core.Path.{_≡_, refl, sym, _∙_, subst}
+use Prim.Native.Nat.{ℕ, zero, suc, _+_, _<_}
+use mathlib.Core.Path.{_≡_, refl, sym, _∙_, ap, subst}
 use mathlib.Core.Logic.{⊎-elim}
 use mathlib.Core.Bool.{Bool, true, false, not, _&&_, _||_}
 use mathlib.Core.List.{List, [], _∷_, List·Memᴰ, List·Memᴰ·cases-cons, List·Memᴰ·not-nil}
-use lib.Dec.{T, eqb, leb, ltb, eqb→eq, leb→le, le→leb, ltb→lt}
+use lib.Dec.{T, eqb, ltb, eqb→eq, ltb→lt, T-not}
 use lib.ListN.{length, getD}
 use Rattle.meaning.specs.Count.{Bones, sum, some, every, least, everySet}
 use Rattle.meaning.specs.Tally.{Tally, joins, pairTally, total, weight}
-use Rattle.meaning.specs.Firm.{splits, firm, label, groups}
+use Rattle.meaning.specs.Firm.{splits, firm, groups}
 use Rattle.meaning.specs.Heap.{Heap, start, pile, stands, Cut, Lawful, parted, LawfulRun, left, weights, finished}
 use Rattle.meaning.specs.Cases.{Settled, Thresholds, only, any, At, Case, triangles, three-paths, cases, Bench}
-use Rattle.meaning.proofs.Tests.{both, left-of, right-of, either, _⇒_, imp, taut, so, _⊃_}
-use Rattle.meaning.proofs.Sets.{every-intro, every-elim}
+use Rattle.meaning.proofs.Tests.{left-of, right-of, either, _⇒_, imp, taut, so, _⊃_}
+use Rattle.meaning.proofs.Sets.{every-intro, every-elim, everySet-elim}
+use Rattle.meaning.proofs.Firm.{splits-same, firm-intro}
 use Rattle.meaning.proofs.Tallies.{pairTally-symmetric}
 use Rattle.meaning.proofs.Ends.{names-are-labels, cuts-and-groups, weights-between}
 
 -- ---- the test
 
--- a weight of k or more, and one below k, at each threshold k of a row
-heavy : Thresholds → ℕ → Bool
-heavy (only t) m = leb t m
-heavy any m = false
-
+-- a weight below k, and a heap finished, at each threshold k of a row: where k may be any, no weight is below it, and no pile may split
 light : Thresholds → ℕ → Bool
 light (only t) m = ltb m t
 light any m = false
 
--- firm, and finished, at each threshold of a row
-firm-test : ℕ → Tally → Thresholds → Bones → Bool
-firm-test n w t S = everySet n (λ A. not (splits n S A) || heavy t (weight n w S A))
+unsplit : ℕ → Bones → Bool
+unsplit n S = everySet n (λ A. not (splits n S A))
 
 finished-test : ℕ → Tally → Thresholds → Heap → Bool
-finished-test n w t h = every n (λ p. not (stands n h p) || firm-test n w t (pile n h p))
+finished-test n w (only t) h = finished n w t h
+finished-test n w any h = every n (λ p. not (stands n h p) || unsplit n (pile n h p))
 
 -- the bones of a list; whether all of them are in a set
 among : List ℕ → Bones
@@ -115,7 +112,7 @@ case-runs =
     ∷ []
 
 computed : T (table-test cases case-runs)
-unfolding table-test row-tests run-test cut-tests all cases case-runs triangles three-paths heavy light firm-test finished-test among inside cut cuts pairTally joins total weight sum some every least everySet splits start pile stands parted left weights
+unfolding table-test row-tests run-test cut-tests all cases case-runs triangles three-paths light unsplit finished-test finished firm among inside cut cuts pairTally joins total weight sum some every least everySet splits start pile stands parted left weights
 computed = tt
 
 -- ---- what the test shows
@@ -126,11 +123,6 @@ unfolding all
 passed [] u i = tt
 passed (b ∷ bs) u zero = left-of b (all bs) u
 passed (b ∷ bs) u (suc i) = passed bs (right-of b (all bs) u) i
-
-heavy-at : (t : Thresholds) (k m : ℕ) → At t k → T (heavy t m) → k ≤ m
-unfolding At heavy
-heavy-at (only t) k m e u = subst (λ (x : ℕ). x ≤ m) (sym e) (leb→le t m u)
-heavy-at any k m e u = absurd u
 
 light-at : (t : Thresholds) (k m : ℕ) → At t k → T (light t m) → m < k
 unfolding At light
@@ -146,32 +138,22 @@ inside-at X (x ∷ xs) u b v =
     (λ r. inside-at X xs (right-of (X x) (inside X xs) u) b r)
     (either (eqb b x) (among xs b) v)
 
--- a test of every set that asks less passes too
-everySet-mono : (n : ℕ) (P Q : Bones → Bool) → ((X : Bones) → T (P X) → T (Q X)) → T (everySet n P) → T (everySet n Q)
-unfolding everySet
-everySet-mono zero P Q f u = f (λ b. false) u
-everySet-mono (suc n) P Q f u =
-    let with-n : (Bones → Bool) → Bones → Bool = λ R X. R (λ b. eqb b n || X b) in
-    both (everySet n Q) (everySet n (with-n Q))
-    (everySet-mono n P Q f (left-of (everySet n P) (everySet n (with-n P)) u))
-    (everySet-mono n (with-n P) (with-n Q) (λ X. f (λ b. eqb b n || X b)) (right-of (everySet n P) (everySet n (with-n P)) u))
+unsplit-firm : (n : ℕ) (w : Tally) (k : ℕ) (S : Bones) → T (unsplit n S) → T (firm n w k S)
+unfolding unsplit
+unsplit-firm n w k S u =
+    firm-intro n w k S
+    (λ A s. absurd (T-not (splits n S A) (everySet-elim n _ (λ A B e. ap not (splits-same n S S A B (λ b l. refl) e)) u A) s))
 
-weaker : (s x y : Bool) → (T x → T y) → T (not s || x) → T (not s || y)
-weaker s x y f = taut 3 (λ s x y. (x ⇒ y) ⊃ (not s || x) ⊃ so (not s || y)) tt s x y (imp x y f)
+finished-at : (n : ℕ) (w : Tally) (t : Thresholds) (k : ℕ) → At t k → (h : Heap) → T (finished-test n w t h) → T (finished n w k h)
+unfolding At finished-test finished
+finished-at n w (only t) k e h u = subst (λ (x : ℕ). T (finished n w x h)) (sym e) u
+finished-at n w any k e h u =
+    every-intro n _
+    (λ p l. let S = pile n h p in
+    taut 3 (λ s x y. (x ⇒ y) ⊃ (not s || x) ⊃ so (not s || y)) tt (stands n h p) (unsplit n S) (firm n w k S)
+    (imp (unsplit n S) (firm n w k S) (unsplit-firm n w k S)) (every-elim n _ u p l))
 
 module _ (n : ℕ) (w : Tally) (t : Thresholds) (k : ℕ) (a : At t k) where
-  firm-at : (S : Bones) → T (firm-test n w t S) → T (firm n w k S)
-  unfolding firm-test firm
-  firm-at S =
-      everySet-mono n _ _
-      (λ A. let m = weight n w S A in weaker (splits n S A) (heavy t m) (leb k m) (λ u. le→leb k m (heavy-at t k m a u)))
-
-  finished-at : (h : Heap) → T (finished-test n w t h) → T (finished n w k h)
-  unfolding finished-test finished
-  finished-at h u =
-      every-intro n _
-      (λ p l. let S = pile n h p in weaker (stands n h p) (firm-test n w t S) (firm n w k S) (firm-at S) (every-elim n _ u p l))
-
   cut-lawful : (h : Heap) (m : Move) → T (all (cut-tests n w t h m)) → Lawful n w k h (cut n w h m)
   unfolding cut-tests cut
   cut-lawful h m u =
