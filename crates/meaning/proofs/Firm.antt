@@ -28,9 +28,7 @@ other A = λ b. not (A b)
 
 pub weight-same : (n : ℕ) (v w : Tally) (S S′ A A′ : Bones) → ((i j : ℕ) → i < n → j < n → v i j ≡ w i j) → Same n S S′ → Same n A A′ → weight n v S A ≡ weight n w S′ A′
 unfolding weight
-weight-same n v w S S′ A A′ e s a =
-    total-same n v w _ _ e
-    (λ i j hi hj. ap₂ _&&_ (ap₂ _&&_ (s i hi) (a i hi)) (ap₂ (λ (x y : Bool). x && not y) (s j hj) (a j hj)))
+weight-same n v w S S′ A A′ e s a = total-same n v w _ _ e (λ i j hi hj. cc (s i hi, s j hj, a i hi, a j hj))
 
 pub weight-other : (n : ℕ) (w : Tally) → Symmetric w → (S A : Bones) → weight n w S (other A) ≡ weight n w S A
 unfolding weight

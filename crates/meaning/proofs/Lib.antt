@@ -9,5 +9,5 @@ pub mod Groups
 pub mod Heaps
 pub mod Runs
 pub mod Ends
-pub mod Theorems
 pub mod Cases
+pub mod Theorems

@@ -14,12 +14,14 @@ use Rattle.meaning.specs.Count.{Bones}
 use Rattle.meaning.specs.Tally.{Tally, Symmetric, pairTally, weight}
 use Rattle.meaning.specs.Firm.{splits, firm, group, label, groups}
 use Rattle.meaning.specs.Heap.{Heap, start, Cut, Lawful, LawfulRun, left, weights, between, finished}
+use Rattle.meaning.specs.Cases.{Bench}
 use Rattle.meaning.proofs.Tallies.{pairTally-symmetric}
 use Rattle.meaning.proofs.Firm as Firm
 use Rattle.meaning.proofs.Groups as Groups
 use Rattle.meaning.proofs.Heaps as Heaps
 use Rattle.meaning.proofs.Runs as Runs
 use Rattle.meaning.proofs.Ends as Ends
+use Rattle.meaning.proofs.Cases as Cases
 
 -- the pair tally is the same in either direction of writing
 pub links-symmetric : (links : List Link) → Symmetric (pairTally links)
@@ -101,3 +103,7 @@ module _ (n : ℕ) (w : Tally) (k : ℕ) where
       → T (finished n w k (left n start cs)) → T (finished n w k (left n start ds))
       → ((b : ℕ) → b < n → left n start cs b ≡ left n start ds b) × (length cs ≡ length ds)
   same-end = Ends.same-end n w k
+
+-- the bench cases marked P
+pub bench-cases : Bench
+bench-cases = Cases.bench
