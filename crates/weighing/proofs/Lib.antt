@@ -1,0 +1,3 @@
+-- The laws of weighing.
+pub mod LinksRows
+pub mod LinksBytes
