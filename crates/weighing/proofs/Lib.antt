@@ -1,3 +1,4 @@
 -- The laws of weighing.
 pub mod LinksRows
 pub mod LinksBytes
+pub mod TableAdds

@@ -34,11 +34,13 @@ four bytes j h =
     (drop-cons bytes j 0 (omega arith), drop-cons bytes (suc j) 0 (omega arith), drop-cons bytes (suc (suc j)) 0 (omega arith), drop-cons bytes (suc (suc (suc j))) 0 (omega arith)))
 
 -- the links from place i on are the link in that place and those after it; past the last whole link there are none
-pub linksOf-next : (bytes : List ℕ) (i : ℕ) → i < length bytes / 4 → linksOf (drop (i * 4) bytes) ≡ linkAt bytes i ∷ linksOf (drop ((i + 1) * 4) bytes)
+pub linksOf-next : (bytes : List ℕ) (i : ℕ) {l : Link} → i < length bytes / 4 → l ≡ linkAt bytes i → linksOf (drop (i * 4) bytes) ≡ l ∷ linksOf (drop ((i + 1) * 4) bytes)
 unfolding linksOf linkAt
-linksOf-next bytes i h =
+linksOf-next bytes i {l} h e =
     let step : i * 4 + 4 ≡ (i + 1) * 4 = omega arith in
-    ap linksOf (four bytes (i * 4) (omega arith)) ∙ ap (λ (j : ℕ). linkAt bytes i ∷ linksOf (drop j bytes)) step
+    ap linksOf (four bytes (i * 4) (omega arith))
+    ∙ ap (λ (j : ℕ). linkAt bytes i ∷ linksOf (drop j bytes)) step
+    ∙ ap (λ (x : Link). x ∷ linksOf (drop ((i + 1) * 4) bytes)) (sym e)
 
 pub linksOf-end : (bytes : List ℕ) (i : ℕ) → length bytes / 4 ≤ i → linksOf (drop (i * 4) bytes) ≡ []
 linksOf-end bytes i h = linksOf-short (drop (i * 4) bytes) (omega (arith, length-drop (i * 4) bytes))

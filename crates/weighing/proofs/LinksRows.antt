@@ -1,9 +1,10 @@
 -- Laws of the rows that judge links: which refusal comes first in two lists put together, and how judging goes on from one link to the next.
 -- Assumes nothing.
 use Prim.Native.Nat.{ℕ, suc, _+_, _≤_, _<_}
-use mathlib.Core.Path.{_≡_, refl, sym, subst}
+use mathlib.Core.Path.{_≡_, refl, _∙_, subst}
 use mathlib.Core.Bool.{Bool, true, false, not, _||_}
 use mathlib.Core.List.{List, [], _∷_, _++_}
+use native.Mathlib.Nat.{lt-of-lt-of-le}
 use native.Mathlib.Numerals.{add-one}
 use native.Mathlib.Omega.{arith}
 use Rattle.meaning.specs.declared.Link.{Link}
@@ -11,7 +12,7 @@ use Rattle.meaning.specs.declared.Judged.{Judged}
 use Rattle.meaning.specs.declared.Judged.the-variants.{Accepted, Refused}
 use lib.ListN.{length}
 use lib.Dec.{T, eqb, leb, ltb}
-use borrow.Author.Tests.{eqb-false, leb-false, ltb-false, not-false}
+use borrow.Author.Tests.{eqb-false, leb-false, ltb-false, not-false, lt-leb, ne-eqb}
 use Rattle.meaning.specs.Judge.{refuse, first}
 use Rattle.weighing.specs.Links.{countRows, linkRows, linksRows, tableRows}
 
@@ -115,7 +116,21 @@ links-accepted n i (l ∷ ls) e = (
   links-accepted n (suc i) ls (accepted-right (linkRows n i l) (linksRows n (suc i) ls) e),
 )
 
--- judging links in turn: at place i, where `rest` are the links that are left, past a link that is accepted, and at one that is refused
+-- a link that is proper among n bones is accepted among more
+link-more : (n m i : ℕ) (l : Link) → n ≤ m → Proper n l → first (linkRows m i l) ≡ Accepted
+unfolding linkRows refuse first
+link-more n m i l h p =
+    simp
+    (lt-leb m (l .a) (lt-of-lt-of-le (p .first-end) h), lt-leb m (l .b) (lt-of-lt-of-le (p .second-end) h), ne-eqb (l .a) (l .b) (p .two-ends), ne-eqb (l .tally) 0 (omega arith))
+
+pub links-more : (n m i : ℕ) (ls : List Link) → n ≤ m → Propers n ls → first (linksRows m i ls) ≡ Accepted
+unfolding linksRows Propers first
+links-more n m i [] h p = refl
+links-more n m i (l ∷ ls) h p =
+    first-accepted (linkRows m i l) (linksRows m (suc i) ls) (link-more n m i l h (p .0)) ∙ links-more n m (suc i) ls h (p .1)
+
+-- judging links in turn: at place i, where `rest` are the links that are left, past a link that is accepted, and at one that
+-- is refused; where all that are left are accepted, so is the next
 pub links-next : (n i : ℕ) (l : Link) (ls : List Link) {rest : List Link} → rest ≡ l ∷ ls → first (linkRows n i l) ≡ Accepted → first (linksRows n i rest) ≡ first (linksRows n (i + 1) ls)
 unfolding linksRows
 links-next n i l ls {rest} r e = rw (r, add-one i) (first-accepted (linkRows n i l) (linksRows n (suc i) ls) e)
@@ -124,6 +139,10 @@ pub links-stop : (n i : ℕ) (l : Link) (ls : List Link) (number place : ℕ) {r
 unfolding linksRows
 links-stop n i l ls number place {rest} r e =
     rw r (first-refused (linkRows n i l) (linksRows n (suc i) ls) number place e)
+
+pub links-here : (n i : ℕ) (l : Link) (ls : List Link) {rest : List Link} → rest ≡ l ∷ ls → first (linksRows n i rest) ≡ Accepted → first (linkRows n i l) ≡ Accepted
+unfolding linksRows
+links-here n i l ls {rest} r e = accepted-left (linkRows n i l) (linksRows n (suc i) ls) (rw r at e)
 
 pub links-none : (n i : ℕ) {rest : List Link} → rest ≡ [] → first (linksRows n i rest) ≡ Accepted
 unfolding linksRows first

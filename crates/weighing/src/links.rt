@@ -1,5 +1,6 @@
 // Judging the bone count, the threshold and the links: rows 1 to 6 of the refusal table. Nothing is changed here.
 use meaning::Judged;
+use meaning::Link;
 ghost use mathlib.Core.Path.{_≡_};
 ghost use Rattle.meaning.specs.Judge.{first};
 ghost use Prim.Native.Nat.{_+_, _*_, _/_, _<_, _≤_};
@@ -63,14 +64,18 @@ pub fn tally_of(high: u8, low: u8) -> u16
     (high as u16) * 256 + low as u16
 }
 
-// Rows 4, 5 and 6 on the link in place i of a run of bytes.
-fn judge_at(n: u64, links: &[u8], i: usize) -> Judged
-    requires { ⌜ (i < 4096) × (i * 4 + 4 ≤ length (now links)) ⌝ }
-    ensures { λ r. ⌜ r ≡ first (linkRows n i (linkAt (now (links .entry)) i)) ⌝ }
+// The link in place i of a run of bytes.
+pub(crate) fn link_at(links: &[u8], i: usize) -> Link
+    requires { ⌜ i * 4 + 4 ≤ length (now links) ⌝ }
+    ensures { λ r. ⌜ r ≡ linkAt (now (links .entry)) i ⌝ }
 {
     let at = i * 4;
     let tally = tally_of(links[at + 2], links[at + 3]);
-    judge_link(n, links[at], links[at + 1], tally, i as u32)
+    Link {
+        a: links[at],
+        b: links[at + 1],
+        tally,
+    }
 }
 
 // Rows 4, 5 and 6 on each link of a run of bytes in turn.
@@ -81,7 +86,8 @@ fn judge_links(n: u64, links: &[u8]) -> Judged
     let count = links.len() / 4;
     let mut i = 0;
     while i < count {
-        match judge_at(n, links, i) {
+        let l = link_at(links, i);
+        match judge_link(n, l.a, l.b, l.tally, i as u32) {
             Judged::Accepted => {}
             Judged::Refused { number, place } => return Judged::Refused { number, place },
         }

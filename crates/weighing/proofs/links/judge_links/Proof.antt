@@ -5,9 +5,9 @@ use mathlib.Core.Path.{_≡_, refl, sym, _∙_}
 use native.Mathlib.Omega.{arith}
 use borrow.Author.Needs.{needs}
 use lib.ListN.{length, drop}
+use denote.Ref.{now}
 use Rattle.meaning.specs.Judge.{first}
 use Rattle.weighing.specs.Links.{linksOf, linksRows}
-use denote.Ref.{now}
 use Rattle.weighing.proofs.LinksRows.{links-next, links-stop, links-none}
 use Rattle.weighing.proofs.LinksBytes.{linksOf-next, linksOf-end}
 use Rattle.weighing.proofs.links.judge_links.Statement.{statement}
@@ -23,8 +23,14 @@ abbrev μ-loop : tie.MeasureT-loop
 loop-holds : tie.Need-loop-holds Inv-loop μ-loop
 loop-holds c = (zero-le, refl)
 
-judge-at-requires : tie.Need-judge-at-requires Inv-loop μ-loop
-judge-at-requires c κs = omega arith
+link-at-requires : tie.Need-link-at-requires Inv-loop μ-loop
+link-at-requires c κs = omega arith
+
+cast-judge-link : tie.Need-cast-judge-link Inv-loop μ-loop
+cast-judge-link c = omega arith
+
+judge-link-requires : tie.Need-judge-link-requires Inv-loop μ-loop
+judge-link-requires c κs = search needs
 
 enum-told : tie.Need-enum-told Inv-loop μ-loop
 enum-told c = search needs
@@ -34,12 +40,12 @@ enum-known-number c = search needs
 
 returns : tie.Need-returns Inv-loop μ-loop
 returns c =
-    let a = c .before .before .before .before .before .before .before .args in
-    let head = c .before .before .before .before .before .loop in
+    let a = c .before .before .before .before .before .before .before .before .args in
+    let head = c .before .before .before .before .before .before .loop in
     sym
     (head .inv .1
-    ∙ links-stop (a .n) (head .i) _ _ _ _ (linksOf-next (now (a .links)) (head .i) (omega arith))
-    (sym (c .before .before .before .judge-at .ensures) ∙ c .before .number .given .1))
+    ∙ links-stop (a .n) (head .i) _ _ _ _ (linksOf-next (now (a .links)) (head .i) (omega arith) (c .before .before .before .before .link-at .ensures))
+    (sym (c .before .before .before .judge-link .ensures) ∙ c .before .number .given .1))
 
 add-i : tie.Need-add-i Inv-loop μ-loop
 add-i c = omega arith
@@ -49,12 +55,12 @@ loop-less c = omega arith
 
 loop-again : tie.Need-loop-again Inv-loop μ-loop
 loop-again c =
-    let a = c .before .before .before .before .before .before .args in
-    let head = c .before .before .before .before .loop in (
+    let a = c .before .before .before .before .before .before .before .args in
+    let head = c .before .before .before .before .before .loop in (
       omega arith,
       head .inv .1
-          ∙ links-next (a .n) (head .i) _ _ (linksOf-next (now (a .links)) (head .i) (omega arith))
-          (sym (c .before .before .judge-at .ensures) ∙ c .enum-told .given .1),
+          ∙ links-next (a .n) (head .i) _ _ (linksOf-next (now (a .links)) (head .i) (omega arith) (c .before .before .before .link-at .ensures))
+          (sym (c .before .before .judge-link .ensures) ∙ c .enum-told .given .1),
     )
 
 returns-2 : tie.Need-returns-2 Inv-loop μ-loop
@@ -70,7 +76,9 @@ judge-links-spec =
     Inv-loop
     μ-loop
     loop-holds
-    judge-at-requires
+    link-at-requires
+    cast-judge-link
+    judge-link-requires
     enum-told
     enum-known-number
     returns
