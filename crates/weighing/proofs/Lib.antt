@@ -2,3 +2,4 @@
 pub mod LinksRows
 pub mod LinksBytes
 pub mod TableAdds
+pub mod Sides

@@ -2,3 +2,4 @@
 mod links;
 mod search;
 mod table;
+mod weigh;
