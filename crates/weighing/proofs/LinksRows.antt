@@ -116,18 +116,31 @@ links-accepted n i (l ∷ ls) e = (
   links-accepted n (suc i) ls (accepted-right (linkRows n i l) (linksRows n (suc i) ls) e),
 )
 
--- a link that is proper among n bones is accepted among more
-link-more : (n m i : ℕ) (l : Link) → n ≤ m → Proper n l → first (linkRows m i l) ≡ Accepted
+-- and what is proper is accepted; among more bones too
+link-proper : (n i : ℕ) (l : Link) → Proper n l → first (linkRows n i l) ≡ Accepted
 unfolding linkRows refuse first
-link-more n m i l h p =
+link-proper n i l p =
     simp
-    (lt-leb m (l .a) (lt-of-lt-of-le (p .first-end) h), lt-leb m (l .b) (lt-of-lt-of-le (p .second-end) h), ne-eqb (l .a) (l .b) (p .two-ends), ne-eqb (l .tally) 0 (omega arith))
+    (lt-leb n (l .a) (p .first-end), lt-leb n (l .b) (p .second-end), ne-eqb (l .a) (l .b) (p .two-ends), ne-eqb (l .tally) 0 (omega arith))
 
-pub links-more : (n m i : ℕ) (ls : List Link) → n ≤ m → Propers n ls → first (linksRows m i ls) ≡ Accepted
+pub links-proper : (n i : ℕ) (ls : List Link) → Propers n ls → first (linksRows n i ls) ≡ Accepted
 unfolding linksRows Propers first
-links-more n m i [] h p = refl
-links-more n m i (l ∷ ls) h p =
-    first-accepted (linkRows m i l) (linksRows m (suc i) ls) (link-more n m i l h (p .0)) ∙ links-more n m (suc i) ls h (p .1)
+links-proper n i [] p = refl
+links-proper n i (l ∷ ls) p =
+    first-accepted (linkRows n i l) (linksRows n (suc i) ls) (link-proper n i l (p .0)) ∙ links-proper n (suc i) ls (p .1)
+
+pub propers-more : (n m : ℕ) (links : List Link) → n ≤ m → Propers n links → Propers m links
+unfolding Propers
+propers-more n m [] h p = tt
+propers-more n m (l ∷ ls) h p = (
+  record {
+    first-end = lt-of-lt-of-le (p .0 .first-end) h;
+    second-end = lt-of-lt-of-le (p .0 .second-end) h;
+    two-ends = p .0 .two-ends;
+    some-tally = p .0 .some-tally;
+  },
+  propers-more n m ls h (p .1),
+)
 
 -- judging links in turn: at place i, where `rest` are the links that are left, past a link that is accepted, and at one that
 -- is refused; where all that are left are accepted, so is the next

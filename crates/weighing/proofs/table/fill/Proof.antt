@@ -1,7 +1,7 @@
 -- `weighing::table::fill` meets its contract: the links are added where they are accepted. Assumes nothing.
 use mathlib.Core.Path.{refl, sym, _∙_}
 use Rattle.weighing.specs.Table.{filled}
-use Rattle.weighing.proofs.LinksRows.{links-more, table-counted, table-proper}
+use Rattle.weighing.proofs.LinksRows.{links-proper, propers-more, table-counted, table-proper}
 use borrow.Author.Needs.{needs}
 use Rattle.weighing.proofs.table.fill.Statement.{statement}
 use Rattle.weighing.proofs.table.fill.Tie as tie
@@ -16,7 +16,8 @@ add-links-requires : tie.Need-add-links-requires
 add-links-requires c κs =
     let a = c .before .before .before .before .before .args in
     let accepted = sym (c .before .before .before .judge .ensures) ∙ c .before .enum-told .given .1 in
-    links-more (a .n) 128 0 _ (table-counted (a .n) (a .k) _ _ accepted .few-bones) (table-proper (a .n) (a .k) _ _ accepted)
+    links-proper 128 0 _
+    (propers-more (a .n) 128 _ (table-counted (a .n) (a .k) _ _ accepted .few-bones) (table-proper (a .n) (a .k) _ _ accepted))
 
 enum-known-number : tie.Need-enum-known-number
 enum-known-number c = search needs
