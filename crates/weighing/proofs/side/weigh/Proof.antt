@@ -1,4 +1,4 @@
--- `weighing::weigh::weigh` meets its contract. The invariant: the total is what the bones below i add, each at most 128 * 2 ^ 32. Assumes nothing.
+-- `weighing::side::weigh` meets its contract. The invariant: the total is what the bones below i add, each at most 128 * 2 ^ 32. Assumes nothing.
 use Prim.Native.Nat.{ℕ, _≤_, zero-le, _+_, _*_, _^_, _-_}
 use mathlib.Core.Path.{_≡_, sym, _∙_, ap, ap₂}
 use native.Mathlib.Omega.{arith}
@@ -9,8 +9,8 @@ use Rattle.meaning.specs.Heap.{pile}
 use Rattle.weighing.specs.Table.{held}
 use Rattle.weighing.specs.Side.{heapOf, sideOf}
 use Rattle.weighing.proofs.Sides.{rows, rows-none, rows-next, weight-rows}
-use Rattle.weighing.proofs.weigh.weigh.Statement.{statement}
-use Rattle.weighing.proofs.weigh.weigh.Tie as tie
+use Rattle.weighing.proofs.side.weigh.Statement.{statement}
+use Rattle.weighing.proofs.side.weigh.Tie as tie
 
 abbrev Inv-loop : tie.InvT-loop
 Inv-loop table names n name side bones total₀ i₀ total i =

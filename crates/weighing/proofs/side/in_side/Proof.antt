@@ -1,9 +1,9 @@
--- `weighing::weigh::in_side` meets its contract. Assumes nothing.
+-- `weighing::side::in_side` meets its contract. Assumes nothing.
 use borrow.Author.Tests.{lt-ltb, le-ltb}
 use Rattle.weighing.specs.Side.{sideOf}
 use borrow.Author.Needs.{needs}
-use Rattle.weighing.proofs.weigh.in_side.Statement.{statement}
-use Rattle.weighing.proofs.weigh.in_side.Tie as tie
+use Rattle.weighing.proofs.side.in_side.Statement.{statement}
+use Rattle.weighing.proofs.side.in_side.Tie as tie
 
 element-copy-out-result : tie.Need-element-copy-out-result
 element-copy-out-result c = search needs

@@ -1,4 +1,4 @@
--- `weighing::weigh::row` meets its contract. Assumes nothing.
+-- `weighing::side::row` meets its contract. Assumes nothing.
 use mathlib.Core.Path.{sym, _∙_}
 use native.Mathlib.Omega.{arith}
 use borrow.Author.Tests.{eq-eqb, ne-eqb}
@@ -6,8 +6,8 @@ use denote.Ref.{now}
 use Rattle.weighing.specs.Side.{heapOf}
 use Rattle.weighing.proofs.Sides.{on-side, pile-below}
 use borrow.Author.Needs.{needs}
-use Rattle.weighing.proofs.weigh.row.Statement.{statement}
-use Rattle.weighing.proofs.weigh.row.Tie as tie
+use Rattle.weighing.proofs.side.row.Statement.{statement}
+use Rattle.weighing.proofs.side.row.Tie as tie
 
 element-copy-out-if1 : tie.Need-element-copy-out-if1
 element-copy-out-if1 c = search needs

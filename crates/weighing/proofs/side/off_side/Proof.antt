@@ -1,5 +1,5 @@
 use Rattle.weighing.proofs.Sides.{offSide-none, offSide-next}
--- `weighing::weigh::off_side` meets its contract. The invariant: the total is the sum over the bones below j, each at most 2 ^ 32. Assumes nothing.
+-- `weighing::side::off_side` meets its contract. The invariant: the total is the sum over the bones below j, each at most 2 ^ 32. Assumes nothing.
 use Prim.Native.Nat.{ℕ, _≤_, zero-le, _+_, _*_, _^_, _-_}
 use mathlib.Core.Path.{_≡_, sym, _∙_, ap, ap₂}
 use native.Mathlib.Omega.{arith}
@@ -8,8 +8,8 @@ use Rattle.meaning.specs.Heap.{pile}
 use Rattle.weighing.specs.Table.{held}
 use Rattle.weighing.specs.Side.{heapOf, sideOf}
 use Rattle.weighing.specs.Weigh.{offSide}
-use Rattle.weighing.proofs.weigh.off_side.Statement.{statement}
-use Rattle.weighing.proofs.weigh.off_side.Tie as tie
+use Rattle.weighing.proofs.side.off_side.Statement.{statement}
+use Rattle.weighing.proofs.side.off_side.Tie as tie
 
 abbrev Inv-loop : tie.InvT-loop
 Inv-loop table names n name side i total₀ j₀ total j =
