@@ -61,8 +61,14 @@ fn accepted() {
     small(2, 3, b"\x00\x01\x00\x01\x01\x00\x00\x02", 2);
 }
 
-// Two triangles with a link between them: as one pile, and as two piles, where that link is in neither.
+// Two triangles with a link between them, of 1 and of 3: as one pile, and as two piles, where that link is in neither.
 fn triangles() {
+    small(
+        6,
+        2,
+        b"\x00\x01\x00\x01\x00\x02\x00\x01\x01\x02\x00\x01\x03\x04\x00\x01\x03\x05\x00\x01\x04\x05\x00\x01\x02\x03\x00\x01",
+        0x38,
+    );
     let links =
         b"\x00\x01\x00\x01\x00\x02\x00\x01\x01\x02\x00\x01\x03\x04\x00\x01\x03\x05\x00\x01\x04\x05\x00\x01\x02\x03\x00\x03";
     small(6, 2, links, 0x38);
