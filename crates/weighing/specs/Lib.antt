@@ -3,3 +3,4 @@ pub mod Table
 pub mod Links
 pub mod Side
 pub mod Search
+pub mod Weigh

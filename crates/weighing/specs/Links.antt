@@ -3,7 +3,7 @@ use Prim.Native.Nat.{ℕ, suc, _+_, _*_, _/_, _%_}
 use mathlib.Core.Bool.{Bool, not, _||_}
 use mathlib.Core.List.{List, [], _∷_, _++_}
 use lib.Dec.{eqb, leb, ltb}
-use lib.ListN.{length}
+use lib.ListN.{length, getD}
 use Rattle.meaning.specs.declared.Link.{Link}
 use Rattle.meaning.specs.declared.Judged.{Judged}
 use Rattle.meaning.specs.Judge.{refuse}
@@ -15,6 +15,15 @@ linksOf (a ∷ []) = []
 linksOf (a ∷ b ∷ []) = []
 linksOf (a ∷ b ∷ high ∷ []) = []
 linksOf (a ∷ b ∷ high ∷ low ∷ rest) = record { a = a; b = b; tally = high * 256 + low } ∷ linksOf rest
+
+-- the link in place i of a run of bytes
+unfoldable pub linkAt : List ℕ → ℕ → Link
+linkAt bytes i =
+    record {
+      a = getD bytes (i * 4) 0;
+      b = getD bytes (i * 4 + 1) 0;
+      tally = getD bytes (i * 4 + 2) 0 * 256 + getD bytes (i * 4 + 3) 0;
+    }
 
 -- whether a run of bytes is whole links
 unfoldable pub whole : List ℕ → Bool
@@ -28,10 +37,14 @@ unfoldable pub linksRows : ℕ → ℕ → List Link → List Judged
 linksRows n i [] = []
 linksRows n i (l ∷ ls) = linkRows n i l ++ linksRows n (suc i) ls
 
--- rows 1 to 6; `good` says that the run of links is whole, as a run of link records always is
-unfoldable pub tableRows : ℕ → ℕ → Bool → List Link → List Judged
-tableRows n k good links =
+-- rows 1, 2 and 3; `good` says that the run of links is whole, as a run of link records always is
+unfoldable pub countRows : ℕ → ℕ → Bool → ℕ → List Judged
+countRows n k good count =
     refuse (eqb n 0 || ltb 128 n) 1 0
     ∷ refuse (eqb k 0 || ltb 65535 k) 2 0
-    ∷ refuse (not good || ltb 4096 (length links)) 3 0
-    ∷ linksRows n 0 links
+    ∷ refuse (not good || ltb 4096 count) 3 0
+    ∷ []
+
+-- rows 1 to 6
+unfoldable pub tableRows : ℕ → ℕ → Bool → List Link → List Judged
+tableRows n k good links = countRows n k good (length links) ++ linksRows n 0 links

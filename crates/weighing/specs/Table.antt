@@ -4,6 +4,8 @@ use Prim.Native.Nat.{ℕ, _+_, _*_, _%_, _^_, min, max}
 use mathlib.Core.List.{List, [], _∷_}
 use lib.ListN.{getD, set}
 use Rattle.meaning.specs.declared.Link.{Link}
+use Rattle.meaning.specs.declared.Judged.{Judged}
+use Rattle.meaning.specs.declared.Judged.the-variants.{Accepted, Refused}
 use Rattle.meaning.specs.Tally.{Tally}
 
 -- where the tally of a pair stands
@@ -21,3 +23,8 @@ added t l = set t (spot (l .a) (l .b)) ((getD t (spot (l .a) (l .b)) 0 + l .tall
 unfoldable pub tallied : List ℕ → List Link → List ℕ
 tallied t [] = t
 tallied t (l ∷ ls) = tallied (added t l) ls
+
+-- the table that a call leaves which was to add a run of links: the same where it refused
+unfoldable pub filled : Judged → List ℕ → List Link → List ℕ
+filled Accepted t links = tallied t links
+filled (Refused number place) t links = t

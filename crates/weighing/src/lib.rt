@@ -1,2 +1,10 @@
 // Weighing: the pair table, the weight of a side, and the search for a light split.
+mod links;
 mod search;
+mod side;
+mod table;
+
+pub use links::judge;
+pub use side::in_side;
+pub use side::weigh;
+pub use table::fill;

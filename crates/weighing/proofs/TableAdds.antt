@@ -1,0 +1,16 @@
+-- Laws of adding links to a table: one link after the other.
+-- Assumes nothing.
+use Prim.Native.Nat.{ℕ}
+use mathlib.Core.Path.{_≡_, refl}
+use mathlib.Core.List.{List, [], _∷_}
+use Rattle.meaning.specs.declared.Link.{Link}
+use Rattle.weighing.specs.Table.{added, tallied}
+
+-- where `rest` are the links that are left
+pub tallied-next : (t : List ℕ) (l : Link) (ls : List Link) {rest : List Link} → rest ≡ l ∷ ls → tallied t rest ≡ tallied (added t l) ls
+unfolding tallied
+tallied-next t l ls r = rw r
+
+pub tallied-none : (t : List ℕ) {rest : List Link} → rest ≡ [] → tallied t rest ≡ t
+unfolding tallied
+tallied-none t r = rw r
