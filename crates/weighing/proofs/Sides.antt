@@ -12,7 +12,7 @@ use Rattle.meaning.specs.Tally.{Tally, total, weight}
 use Rattle.meaning.specs.Heap.{Heap, pile}
 use Rattle.meaning.proofs.Sums.{sum-ext, sum-zero}
 use Rattle.weighing.specs.Side.{sideOf}
-use Rattle.weighing.specs.Weigh.{offSide}
+use Rattle.weighing.specs.Weigh.{offSide, rowOf}
 
 pub on-side : {r : Bool} (bytes : List ℕ) (b : ℕ) → b < 128 → r ≡ (ltb b 128 && sideOf bytes b) → r ≡ sideOf bytes b
 on-side bytes b h e = e ∙ ap (λ (x : Bool). x && sideOf bytes b) (lt-ltb b 128 h)
@@ -33,13 +33,13 @@ offSide-next n w h name A i j l = rw (add-one j, pile-below n h name j l)
 
 -- the part of a weight that the bones below m add, and that part bone by bone
 unfoldable pub rows : ℕ → ℕ → Tally → Bones → Bones → ℕ
-rows m n w S A = sum m (λ i. cond (S i && A i) (offSide n w S A i) 0)
+rows m n w S A = sum m (rowOf n w S A)
 
 pub rows-none : (n : ℕ) (w : Tally) (S A : Bones) → rows 0 n w S A ≡ 0
 unfolding rows sum
 rows-none n w S A = refl
 
-pub rows-next : (m n : ℕ) (w : Tally) (S A : Bones) → rows (m + 1) n w S A ≡ rows m n w S A + cond (S m && A m) (offSide n w S A m) 0
+pub rows-next : (m n : ℕ) (w : Tally) (S A : Bones) → rows (m + 1) n w S A ≡ rows m n w S A + rowOf n w S A m
 unfolding rows sum
 rows-next m n w S A = rw (add-one m)
 
@@ -50,5 +50,5 @@ row-of n w S A i true = refl
 row-of n w S A i false = sum-zero n
 
 pub weight-rows : (n : ℕ) (w : Tally) (S A : Bones) → weight n w S A ≡ rows n n w S A
-unfolding weight total rows
+unfolding weight total rows rowOf
 weight-rows n w S A = sum-ext n _ _ (λ i h. row-of n w S A i (S i && A i))

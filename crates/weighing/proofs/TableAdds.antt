@@ -2,7 +2,7 @@
 -- Assumes nothing.
 use Prim.Native.Nat.{ℕ}
 use mathlib.Core.Path.{_≡_, refl}
-use mathlib.Core.List.{List, [], _∷_}
+use mathlib.Core.List.{List, [], _∷_, _++_}
 use Rattle.meaning.specs.declared.Link.{Link}
 use Rattle.weighing.specs.Table.{added, tallied}
 
@@ -14,3 +14,9 @@ tallied-next t l ls r = rw r
 pub tallied-none : (t : List ℕ) {rest : List Link} → rest ≡ [] → tallied t rest ≡ t
 unfolding tallied
 tallied-none t r = rw r
+
+-- links added in two parts
+pub tallied-append : (t : List ℕ) (xs ys : List Link) → tallied t (xs ++ ys) ≡ tallied (tallied t xs) ys
+unfolding tallied
+tallied-append t [] ys = refl
+tallied-append t (l ∷ ls) ys = tallied-append (added t l) ls ys

@@ -4,12 +4,11 @@ ghost use mathlib.Core.Path.{_≡_};
 ghost use mathlib.Core.Bool.{_&&_, not, cond};
 ghost use Prim.Native.Nat.{_*_, _^_, _≤_, _<_, min};
 ghost use lib.Dec.{eqb, ltb};
-ghost use Rattle.meaning.specs.Count.{sum};
 ghost use Rattle.meaning.specs.Tally.{weight};
 ghost use Rattle.meaning.specs.Heap.{pile};
 ghost use Rattle.weighing.specs.Table.{held};
 ghost use Rattle.weighing.specs.Side.{heapOf, sideOf};
-ghost use Rattle.weighing.specs.Weigh.{offSide};
+ghost use Rattle.weighing.specs.Weigh.{offSide, rowOf};
 
 // Whether a bone is on a side. No number from 128 on is.
 pub fn in_side(side: &[u8; 16], b: usize) -> bool
@@ -75,7 +74,7 @@ fn row(
     i: usize,
 ) -> u64
     requires { ⌜ (n ≤ 128) × (i < n) ⌝ }
-    ensures { λ r. ⌜ r ≡ cond (pile n (heapOf (now (names .entry))) name i && sideOf (now (side .entry)) i) (offSide n (held (now (table .entry))) (pile n (heapOf (now (names .entry))) name) (sideOf (now (side .entry))) i) 0 ⌝ }
+    ensures { λ r. ⌜ r ≡ rowOf n (held (now (table .entry))) (pile n (heapOf (now (names .entry))) name) (sideOf (now (side .entry))) i ⌝ }
     ensures { λ r. ⌜ r ≤ 128 * 2 ^ 32 ⌝ }
 {
     if names[i] == name {

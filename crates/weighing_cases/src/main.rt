@@ -46,12 +46,42 @@ fn case(n: u64, k: u64, links: &[u8], names: &[u8; 128], name: u8, side: &[u8; 1
     line();
 }
 
-// A case with every bone in one pile and a side among the first eight bones.
-fn small(n: u64, k: u64, links: &[u8], bits: u8) {
-    let names = [0u8; 128];
+fn one_pile() -> [u8; 128] {
+    [0; 128]
+}
+
+// Bones 3, 4 and 5 are a pile of their own.
+fn two_piles() -> [u8; 128] {
+    let mut names = one_pile();
+    names[3] = 3;
+    names[4] = 3;
+    names[5] = 3;
+    names
+}
+
+// A side among the first eight bones.
+fn low_side(bits: u8) -> [u8; 16] {
     let mut side = [0u8; 16];
     side[0] = bits;
+    side
+}
+
+fn even_side() -> [u8; 16] {
+    [0x55; 16]
+}
+
+// A case with every bone in one pile.
+fn small(n: u64, k: u64, links: &[u8], bits: u8) {
+    let names = one_pile();
+    let side = low_side(bits);
     case(n, k, links, &names, 0, &side);
+}
+
+// A case of two piles: which of them, and a side.
+fn parted(links: &[u8], name: u8, bits: u8) {
+    let names = two_piles();
+    let side = low_side(bits);
+    case(6, 2, links, &names, name, &side);
 }
 
 fn accepted() {
@@ -74,18 +104,10 @@ fn triangles() {
     small(6, 2, links, 0x38);
     small(6, 2, links, 0x20);
     small(6, 2, links, 0x04);
-    let mut names = [0u8; 128];
-    names[3] = 3;
-    names[4] = 3;
-    names[5] = 3;
-    let mut side = [0u8; 16];
-    side[0] = 0x04;
-    case(6, 2, links, &names, 0, &side);
-    side[0] = 0x28;
-    case(6, 2, links, &names, 3, &side);
-    side[0] = 0xff;
-    case(6, 2, links, &names, 3, &side);
-    case(6, 2, links, &names, 1, &side);
+    parted(links, 0, 0x04);
+    parted(links, 3, 0x28);
+    parted(links, 3, 0xff);
+    parted(links, 1, 0xff);
 }
 
 // Bones 0 and 1, each linked to 2, 3 and 4.
@@ -158,11 +180,10 @@ fn list(round: bool) -> [u8; 16388]
 // 4,096 links of tally 65,535, and one more.
 fn many(n: u64, round: bool) {
     let links = list(round);
-    let names = [0u8; 128];
-    let mut side = [0u8; 16];
-    side[0] = 2;
-    case(n, 65535, &links[..16384], &names, 0, &side);
-    side = [0x55u8; 16];
-    case(n, 65535, &links[..16384], &names, 0, &side);
-    case(n, 65535, &links, &names, 0, &side);
+    let names = one_pile();
+    let one = low_side(2);
+    let even = even_side();
+    case(n, 65535, &links[..16384], &names, 0, &one);
+    case(n, 65535, &links[..16384], &names, 0, &even);
+    case(n, 65535, &links, &names, 0, &even);
 }

@@ -9,14 +9,20 @@ use Rattle.weighing_cases.proofs.many.Tie as tie
 list-requires : tie.Need-list-requires
 list-requires c κs = search needs
 
-array-write-side : tie.Need-array-write-side
-array-write-side c = search needs
+one-pile-requires : tie.Need-one-pile-requires
+one-pile-requires c κs = search needs
+
+low-side-requires : tie.Need-low-side-requires
+low-side-requires c κs = search needs
+
+even-side-requires : tie.Need-even-side-requires
+even-side-requires c κs = search needs
 
 array-share-prefix-links : tie.Need-array-share-prefix-links
 array-share-prefix-links c = search needs
 
 slice-aggregate-case : tie.Need-slice-aggregate-case
-slice-aggregate-case c = sym (length-take-le 16384 (c .before .list .result) (omega arith))
+slice-aggregate-case c = sym (length-take-le 16384 (c .before .before .before .before .list .result) (omega arith))
 
 case-requires : tie.Need-case-requires
 case-requires c κs = search needs
@@ -25,7 +31,7 @@ array-share-prefix-links-2 : tie.Need-array-share-prefix-links-2
 array-share-prefix-links-2 c = search needs
 
 slice-aggregate-case-2 : tie.Need-slice-aggregate-case-2
-slice-aggregate-case-2 c = sym (length-take-le 16384 (c .before .before .before .before .before .list .result) (omega arith))
+slice-aggregate-case-2 c = sym (length-take-le 16384 (c .before .before .before .before .before .before .before .before .list .result) (omega arith))
 
 case-requires-2 : tie.Need-case-requires-2
 case-requires-2 c κs = search needs
@@ -44,7 +50,9 @@ many-spec =
     tie.close
     (tie.spec
     list-requires
-    array-write-side
+    one-pile-requires
+    low-side-requires
+    even-side-requires
     array-share-prefix-links
     slice-aggregate-case
     case-requires

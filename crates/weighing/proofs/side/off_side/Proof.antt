@@ -1,5 +1,5 @@
-use Rattle.weighing.proofs.Sides.{offSide-none, offSide-next}
 -- `weighing::side::off_side` meets its contract. The invariant: the total is the sum over the bones below j, each at most 2 ^ 32. Assumes nothing.
+use Rattle.weighing.proofs.Sides.{offSide-none, offSide-next}
 use Prim.Native.Nat.{ℕ, _≤_, zero-le, _+_, _*_, _^_, _-_}
 use mathlib.Core.Path.{_≡_, sym, _∙_, ap, ap₂}
 use native.Mathlib.Omega.{arith}

@@ -4,6 +4,7 @@ use native.Mathlib.Omega.{arith}
 use borrow.Author.Tests.{eq-eqb, ne-eqb}
 use denote.Ref.{now}
 use Rattle.weighing.specs.Side.{heapOf}
+use Rattle.weighing.specs.Weigh.{rowOf}
 use Rattle.weighing.proofs.Sides.{on-side, pile-below}
 use borrow.Author.Needs.{needs}
 use Rattle.weighing.proofs.side.row.Statement.{statement}
@@ -19,7 +20,7 @@ off-side-requires : tie.Need-off-side-requires
 off-side-requires c κs = search needs
 
 returns : tie.Need-returns
-unfolding heapOf
+unfolding rowOf heapOf
 returns c =
     let a = c .before .before .before .before .before .args in
     let there = pile-below (a .n) (heapOf (now (a .names))) (a .name) (a .i) (omega arith) ∙ eq-eqb _ _ (c .before .before .before .if1 .taken) in
@@ -27,7 +28,7 @@ returns c =
     (simp (there, on) (c .off-side .ensures .0), c .off-side .ensures .1)
 
 returns-2 : tie.Need-returns-2
-unfolding heapOf
+unfolding rowOf heapOf
 returns-2 c =
     let a = c .before .before .before .before .args in
     let there = pile-below (a .n) (heapOf (now (a .names))) (a .name) (a .i) (omega arith) ∙ eq-eqb _ _ (c .before .before .if1 .taken) in
@@ -35,7 +36,7 @@ returns-2 c =
     (simp (there, off), search needs)
 
 returns-3 : tie.Need-returns-3
-unfolding heapOf
+unfolding rowOf heapOf
 returns-3 c =
     let a = c .before .before .args in
     let elsewhere = pile-below (a .n) (heapOf (now (a .names))) (a .name) (a .i) (omega arith) ∙ ne-eqb _ _ (c .if1 .left) in

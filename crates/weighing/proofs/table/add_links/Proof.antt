@@ -1,9 +1,9 @@
-use Rattle.weighing.proofs.LinksRows.{link-accepted, links-here, links-next}
-use Rattle.weighing.proofs.LinksBytes.{linksOf-next, linksOf-end}
-use Rattle.weighing.proofs.TableAdds.{tallied-next, tallied-none}
 -- `weighing::table::add_links` meets its contract. The invariant: all links added to the table as it came make what those from i on
 -- make of the table as it is; and those from i on are accepted.
 -- Assumes nothing.
+use Rattle.weighing.proofs.LinksRows.{link-accepted, links-here, links-next}
+use Rattle.weighing.proofs.LinksBytes.{linksOf-next, linksOf-end}
+use Rattle.weighing.proofs.TableAdds.{tallied-next, tallied-none}
 use Prim.Native.Nat.{ℕ, _≤_, zero-le, _+_, _*_, _/_, _-_}
 use mathlib.Core.Path.{_≡_, refl, sym, _∙_, ap}
 use mathlib.Core.List.{List}
