@@ -4,3 +4,4 @@ pub mod Links
 pub mod Side
 pub mod Search
 pub mod Weigh
+pub mod Scan

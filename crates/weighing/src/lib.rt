@@ -1,6 +1,9 @@
 // Weighing: the pair table, the weight of a side, and the search for a light split.
 mod links;
-mod search;
+mod moved;
+mod pass;
+mod scan;
+pub mod search;
 mod side;
 mod table;
 
