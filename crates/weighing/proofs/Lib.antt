@@ -15,3 +15,5 @@ pub mod Scanning
 pub mod Passing
 pub mod Bits
 pub mod Searching
+pub mod Growing
+pub mod Flowing

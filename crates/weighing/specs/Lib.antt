@@ -5,3 +5,5 @@ pub mod Side
 pub mod Search
 pub mod Weigh
 pub mod Scan
+pub mod Grow
+pub mod Flow
