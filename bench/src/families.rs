@@ -16,7 +16,7 @@ pub const FAMILIES: &[Family] = &[
     family("sparse", |n, rng| random(n, 2 * n, 3, 3, rng)),
     family("sparse, k 1", |n, rng| random(n, n, 3, 1, rng)),
     family("dense, firm", |n, rng| dense(n, 50, rng)),
-    family("dense, some fall", |n, rng| dense(n, 72, rng)),
+    family("dense, some fall", |n, rng| dense(n, 78, rng)),
     family("dense, apart", |n, rng| dense(n, 200, rng)),
     family("planted blocks", planted),
     family("cliques, bridges", |n, rng| cliques(n, 7, rng)),
