@@ -6,6 +6,7 @@ mod library;
 mod list;
 mod measure;
 mod plain;
+mod program;
 mod report;
 mod rng;
 mod stack;
@@ -23,12 +24,14 @@ struct Options {
     seed: u64,
     lists: u64,
     climb: u64,
+    program: Option<PathBuf>,
     found: PathBuf,
     out: PathBuf,
 }
 
 fn options() -> Result<Options, String> {
-    let mut options = Options { seed: 1, lists: 3, climb: 0, found: "bench/lists".into(), out: "target/bench".into() };
+    let mut options =
+        Options { seed: 1, lists: 3, climb: 0, program: None, found: "bench/lists".into(), out: "target/bench".into() };
     let mut words = std::env::args().skip(1);
     while let Some(word) = words.next() {
         let mut value = || words.next().ok_or(format!("{word} wants a value"));
@@ -36,6 +39,7 @@ fn options() -> Result<Options, String> {
             "--seed" => options.seed = number(&value()?)?,
             "--lists" => options.lists = number(&value()?)?,
             "--climb" => options.climb = number(&value()?)?,
+            "--program" => options.program = Some(value()?.into()),
             "--found" => options.found = value()?.into(),
             "--out" => options.out = value()?.into(),
             _ => return Err(format!("no option {word}")),
@@ -136,6 +140,9 @@ fn run() -> Result<(), String> {
     report::print_growth(&rows);
     report::print_summary(&rows);
     print_stack(&rows);
+    if let Some(program) = &options.program {
+        program::print(program).map_err(|error| format!("{}: {error}", program.display()))?;
+    }
     if options.climb > 0 {
         climbs(&mut rows, &options, &mut room)?;
     }

@@ -26,6 +26,11 @@ impl Case {
         }
     }
 
+    /// The text, and what to do with it.
+    pub fn reproduce(&self) -> String {
+        format!("--- compare/run --replay FILE, with this in FILE:\n{}---", self.text())
+    }
+
     pub fn from_text(text: &str) -> Option<Case> {
         let value = |key: &str| text.lines().find_map(|line| line.strip_prefix(key)?.strip_prefix(' '));
         if value("call")? == "program" {

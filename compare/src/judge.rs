@@ -2,16 +2,11 @@
 
 use crate::case::Case;
 use crate::known::Memory;
-#[cfg(library)]
 use crate::library::{self, Answer, Done};
 use crate::program;
-use crate::second::calls::{judge_grouping, Job};
-#[cfg(library)]
-use crate::second::calls::judge_checking;
-#[cfg(library)]
-use crate::second::record::{cuts_of, ENTRY};
-use crate::second::record::{judge_run, record_of, Heap};
+use crate::second::calls::{judge_checking, judge_grouping, Job};
 use crate::second::pit::Pit;
+use crate::second::record::{cuts_of, judge_run, record_of, Heap, ENTRY};
 use crate::second::text::{asked, cuts_shown, refusal_text, result_text};
 use crate::second::Refusal;
 use std::path::PathBuf;
@@ -50,27 +45,14 @@ impl Judge {
     /// Runs a case on the product and says what is wrong with the answer.
     pub fn hold(&mut self, case: &Case) -> Result<(), String> {
         match case {
+            Case::Grouping(_) | Case::Checking(_) if !cfg!(library) => Ok(()),
             Case::Grouping(job) => self.hold_grouping(job),
             Case::Checking(job) => self.hold_checking(job),
             Case::Program(text) => self.hold_program(text),
         }
     }
 
-    #[cfg(not(library))]
-    fn hold_grouping(&mut self, job: &Job) -> Result<(), String> {
-        if judge_grouping(job).is_ok() {
-            self.memory.of(job);
-        }
-        Ok(())
-    }
-
-    #[cfg(not(library))]
-    fn hold_checking(&mut self, job: &Job) -> Result<(), String> {
-        self.hold_grouping(job)
-    }
-
-    #[cfg(library)]
-    fn hold_grouping(&mut self, job: &Job) -> Result<(), String> {
+        fn hold_grouping(&mut self, job: &Job) -> Result<(), String> {
         let done = library::grouping(job);
         let (pit, _) = match judge_grouping(job) {
             Ok(good) => good,
@@ -88,8 +70,7 @@ impl Judge {
         demand(heap.names(pit.n) == known.labels(), "the run does not lead to the labels")
     }
 
-    #[cfg(library)]
-    fn hold_checking(&mut self, job: &Job) -> Result<(), String> {
+        fn hold_checking(&mut self, job: &Job) -> Result<(), String> {
         let done = library::checking(job);
         let (pit, heap) = match judge_checking(job) {
             Ok(good) => good,
@@ -103,8 +84,7 @@ impl Judge {
         demand(done.wrote_only(pit.n, 0), "a byte changed that may not")
     }
 
-    #[cfg(library)]
-    fn hold_refusal(&mut self, refusal: Refusal, done: &Done) -> Result<(), String> {
+        fn hold_refusal(&mut self, refusal: Refusal, done: &Done) -> Result<(), String> {
         self.met.library[refusal.number as usize] += 1;
         let wanted = Answer { number: refusal.number, place: refusal.place, count: 0, finished: 0 };
         demand(done.answer == wanted, &format!("answered {:?}, wanted {wanted:?}", done.answer))?;
@@ -140,7 +120,6 @@ impl Judge {
     }
 }
 
-#[cfg(library)]
 fn carried(count: usize, finished: bool) -> Answer {
     Answer { number: 0, place: 0, count: count as u32, finished: u32::from(finished) }
 }

@@ -12,6 +12,7 @@ pub struct Answer {
     pub finished: u32,
 }
 
+#[cfg(library)]
 extern "C" {
     fn bones_grouping(
         n: u64,
@@ -36,6 +37,24 @@ extern "C" {
         labels_length: usize,
     ) -> Answer;
 }
+
+/// Stands in where no library is linked; the judge then makes no call.
+#[cfg(not(library))]
+mod absent {
+    use super::Answer;
+
+    type Run = *const u8;
+
+    pub unsafe fn bones_grouping(_: u64, _: u64, _: Run, _: usize, _: Run, _: usize, _: Run, _: usize, _: Run, _: usize) -> Answer {
+        Answer { number: u32::MAX, place: 0, count: 0, finished: 0 }
+    }
+
+    pub unsafe fn bones_checking(_: u64, _: u64, _: Run, _: usize, _: Run, _: usize, _: Run, _: usize) -> Answer {
+        Answer { number: u32::MAX, place: 0, count: 0, finished: 0 }
+    }
+}
+#[cfg(not(library))]
+use absent::{bones_checking, bones_grouping};
 
 const MARGIN: usize = 64;
 const PATTERN: u8 = 0xa7;

@@ -3,13 +3,13 @@
 mod case;
 mod judge;
 mod known;
-#[cfg(library)]
 mod library;
 mod made;
 mod plan;
 mod program;
 mod second;
 mod self_test;
+mod trace;
 
 use case::Case;
 use judge::Judge;
@@ -17,6 +17,7 @@ use made::lists;
 use made::rng::Rng;
 use std::path::PathBuf;
 use std::time::{Duration, Instant};
+use trace::Trace;
 
 struct Options {
     seed: u64,
@@ -26,10 +27,12 @@ struct Options {
     program: Option<PathBuf>,
     replay: Option<PathBuf>,
     answer: Option<String>,
+    trace: Option<PathBuf>,
 }
 
 fn options() -> Result<Options, String> {
-    let mut options = Options { seed: 1, lists: 20_000, texts: 12, soak: 0, program: None, replay: None, answer: None };
+    let mut options =
+        Options { seed: 1, lists: 20_000, texts: 12, soak: 0, program: None, replay: None, answer: None, trace: None };
     let mut words = std::env::args().skip(1);
     while let Some(word) = words.next() {
         let mut value = || words.next().ok_or(format!("{word} wants a value"));
@@ -41,6 +44,7 @@ fn options() -> Result<Options, String> {
             "--soak" => options.soak = number(value()?)?,
             "--program" => options.program = Some(value()?.into()),
             "--replay" => options.replay = Some(value()?.into()),
+            "--trace" => options.trace = Some(value()?.into()),
             "--answer" => options.answer = Some(value()?),
             _ => return Err(format!("no option {word}")),
         }
@@ -51,6 +55,7 @@ fn options() -> Result<Options, String> {
 /// Holds cases one by one; the first few failures are printed with a text that reproduces them.
 struct Tally {
     judge: Judge,
+    trace: Trace,
     held: u64,
     failed: u64,
 }
@@ -59,7 +64,7 @@ const MOST_SHOWN: u64 = 5;
 
 impl Tally {
     fn hold(&mut self, case: &Case) {
-        match self.judge.hold(case) {
+        match self.trace.during(case, || self.judge.hold(case)) {
             Ok(()) => self.held += 1,
             Err(what) => self.fail(case, &what),
         }
@@ -68,7 +73,7 @@ impl Tally {
     fn fail(&mut self, case: &Case, what: &str) {
         self.failed += 1;
         if self.failed <= MOST_SHOWN {
-            println!("FAILED: {what}\n--- compare/run --replay FILE, with this in FILE:\n{}---", case.text());
+            println!("FAILED: {what}\n{}", case.reproduce());
         }
     }
 
@@ -80,8 +85,8 @@ impl Tally {
 fn hold_list(tally: &mut Tally, turn: usize, seed: u64) {
     let mut rng = Rng::new(seed.wrapping_mul(1_000_003).wrapping_add(turn as u64));
     let job = lists::list(plan::size(turn, &mut rng), &mut rng);
-    for case in plan::cases_of_list(&job, turn, &mut rng) {
-        tally.hold(&case);
+    if cfg!(library) {
+        plan::cases_of_list(&job, turn, &mut rng).iter().for_each(|case| tally.hold(case));
     }
     if tally.judge.has_program() {
         tally.hold(&Case::Program(plan::text_of_list(&job, &mut rng)));
@@ -149,7 +154,7 @@ fn run(options: &Options) -> Result<bool, String> {
     if let Some(what) = &options.answer {
         return second::answer(what).map(|()| true);
     }
-    let mut tally = Tally { judge: Judge::new(options.program.clone()), held: 0, failed: 0 };
+    let mut tally = Tally { judge: Judge::new(options.program.clone()), trace: Trace(options.trace.clone()), held: 0, failed: 0 };
     if let Some(path) = &options.replay {
         return replay(&mut tally, path);
     }

@@ -26,7 +26,7 @@ pub fn cases_of_list(job: &Job, turn: usize, rng: &mut Rng) -> Vec<Case> {
     for length in places(cuts.len() + 1, turn, rng) {
         cases.extend(both(with_record(job, record_of(&cuts[..length]))));
     }
-    for place in places(cuts.len(), turn, rng) {
+    for place in places(cuts.len() + 1, turn, rng) {
         for record in damage::bad_runs(&pit, &cuts, place, rng) {
             cases.extend(both(with_record(job, record)));
         }
@@ -69,8 +69,8 @@ pub fn text_of_list(job: &Job, rng: &mut Rng) -> Vec<u8> {
     let cuts = cutter::run(&pit, rng);
     let job = match rng.below(4) {
         0 => job.clone(),
-        1 if !cuts.is_empty() => {
-            let place = rng.below(cuts.len());
+        1 if pit.n > 1 => {
+            let place = rng.below(cuts.len() + 1).min(pit.n - 2);
             with_record(job, one_of(damage::bad_runs(&pit, &cuts, place, rng), rng))
         }
         2 => damage::bad_job(&with_record(job, some_of(&cuts, rng)), rng),

@@ -7,32 +7,41 @@ use crate::second::pit::{bones_of, only, Pit};
 use crate::second::record::{record_of, Cut, Heap};
 use crate::second::text::{line, payload_length};
 
-/// A run with one cut changed, in place `place`: in its pile, its side, its weight or its order.
+/// A run with one cut changed, in place `place`: in its pile, its side, its weight or its order. The place after the last cut takes
+/// one more cut instead, if the run may be longer.
 pub fn bad_runs(pit: &Pit, cuts: &[Cut], place: usize, rng: &mut Rng) -> Vec<Vec<u8>> {
-    let good = cuts[place];
-    let mut bad: Vec<Vec<Cut>> = changed_cuts(pit, cuts, place, rng).into_iter().map(|cut| with(cuts, place, cut)).collect();
-    let other = rng.below(cuts.len());
+    let mut bad = Vec::new();
+    if place < cuts.len() {
+        bad.extend(reordered(pit, cuts, place, rng));
+    }
+    if place < pit.n - 1 {
+        let other = other_cut(pit, &cuts[..place], rng);
+        let good = cuts.get(place).copied().unwrap_or(other);
+        bad.extend(changed_cuts(pit, good, rng).into_iter().chain([other]).map(|cut| with(cuts, place, cut)));
+    }
+    bad.iter().map(|cuts| record_of(cuts)).collect()
+}
+
+/// The cut swapped with another, made twice, and left out.
+fn reordered(pit: &Pit, cuts: &[Cut], place: usize, rng: &mut Rng) -> [Vec<Cut>; 3] {
     let mut swapped = cuts.to_vec();
-    swapped.swap(place, other);
-    bad.push(swapped);
+    swapped.swap(place, rng.below(cuts.len()));
     let mut twice = cuts.to_vec();
-    twice.insert(place, good);
+    twice.insert(place, cuts[place]);
     twice.truncate(pit.n - 1);
-    bad.push(twice);
     let mut dropped = cuts.to_vec();
     dropped.remove(place);
-    bad.push(dropped);
-    bad.iter().map(|cuts| record_of(cuts)).collect()
+    [swapped, twice, dropped]
 }
 
 fn with(cuts: &[Cut], place: usize, cut: Cut) -> Vec<Cut> {
     let mut changed = cuts.to_vec();
+    changed.resize(changed.len().max(place + 1), cut);
     changed[place] = cut;
     changed
 }
 
-fn changed_cuts(pit: &Pit, cuts: &[Cut], place: usize, rng: &mut Rng) -> Vec<Cut> {
-    let good = cuts[place];
+fn changed_cuts(pit: &Pit, good: Cut, rng: &mut Rng) -> Vec<Cut> {
     let bone = rng.below(128);
     let near = rng.below(pit.n);
     vec![
@@ -47,7 +56,6 @@ fn changed_cuts(pit: &Pit, cuts: &[Cut], place: usize, rng: &mut Rng) -> Vec<Cut
         Cut { weight: good.weight ^ 1 << rng.below(32), ..good },
         Cut { weight: good.weight + 1, ..good },
         Cut { weight: rng.next() as u32, ..good },
-        other_cut(pit, &cuts[..place], rng),
     ]
 }
 
@@ -72,9 +80,11 @@ pub fn bad_job(job: &Job, rng: &mut Rng) -> Job {
 }
 
 fn spoil(job: &mut Job, rng: &mut Rng) {
+    // Numbers whose low bytes look good.
+    let (n, k) = (job.n % 256, job.k % 65_536);
     match rng.below(12) {
-        0 => job.n = rng.pick(&[0, 129, 130, 255, 256, 257, 1 << 32, u64::MAX]),
-        1 => job.k = rng.pick(&[0, 65_536, 65_537, 1 << 32, u64::MAX]),
+        0 => job.n = rng.pick(&[0, 129, 130, 255, 256 + n, 65_536 + n, (1 << 32) + n, u64::MAX]),
+        1 => job.k = rng.pick(&[0, 65_536, 65_536 + k, (1 << 32) + k, u64::MAX]),
         2 => job.n = 1 + rng.below(128) as u64,
         3 => job.links.resize(job.links.len() + rng.within(1, 3), 1),
         4 => job.links.resize(rng.pick(&[16_384, 16_385, 16_388, 16_392]), 1),
