@@ -77,7 +77,7 @@ fn found(folder: &Path) -> Vec<List> {
 }
 
 fn timed(options: &Options, room: &mut Room) -> Result<Vec<Row>, String> {
-    let care = Care { batch: Duration::from_micros(400), batches: 7 };
+    let care = Care { batch: Duration::from_micros(400), batches: 9 };
     lists(options)
         .into_iter()
         .map(|(family, size, list)| room.times(&list, care).map(|times| Row { family, size, list, times }))

@@ -64,15 +64,17 @@ impl Room {
         ))
     }
 
+    /// Batches of the library and of the yardstick take turns, so that a busy moment of the machine meets both.
     pub fn times(&mut self, list: &List, care: Care) -> Result<Times, String> {
         let groups = self.agree(list)?;
-        let library = best(care, || {
-            black_box(self.library(list));
-        });
-        let plain = best(care, || {
-            black_box(self.plain(list));
-        });
-        Ok(Times { plain, library, fill: best(care, || fill(list)), groups })
+        let once = Care { batches: 1, ..care };
+        let mut times = Times { plain: f64::INFINITY, library: f64::INFINITY, fill: f64::INFINITY, groups };
+        for _ in 0..care.batches {
+            times.library = times.library.min(self.library_time(list, once));
+            times.plain = times.plain.min(self.plain_time(list, once));
+            times.fill = times.fill.min(best(once, || fill(list)));
+        }
+        Ok(times)
     }
 
     pub fn library_once(&mut self, list: &List) {

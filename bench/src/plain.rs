@@ -90,16 +90,19 @@ fn light_split(table: &Table, pile: u128, k: u32, blocks: &mut Blocks) -> Option
 }
 
 fn single_bones(table: &Table, pile: u128, blocks: &mut Blocks) {
+    let mut bones = [0; MOST];
     blocks.count = 0;
-    for_each_bone(pile, |a| {
-        let mut column = 0;
-        for_each_bone(pile, |b| {
-            blocks.tally[blocks.count][column] = table[a][b];
-            column += 1;
-        });
-        blocks.bones[blocks.count] = 1 << a;
+    for_each_bone(pile, |bone| {
+        bones[blocks.count] = bone;
+        blocks.bones[blocks.count] = 1 << bone;
         blocks.count += 1;
     });
+    let bones = &bones[..blocks.count];
+    for (row, &a) in blocks.tally.iter_mut().zip(bones) {
+        for (tally, &b) in row.iter_mut().zip(bones) {
+            *tally = table[a][b];
+        }
+    }
 }
 
 /// The order in which blocks are taken, from the first on, each with the tally by which it attaches to those before it.
