@@ -5,6 +5,8 @@ mod pass;
 mod scan;
 pub mod search;
 mod side;
+pub mod records;
+mod search;
 mod table;
 
 pub use links::judge;
