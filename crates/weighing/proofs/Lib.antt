@@ -17,4 +17,7 @@ pub mod Bits
 pub mod Searching
 pub mod Growing
 pub mod Flowing
+pub mod RecordsRows
 pub mod RecordsLink
+pub mod RecordsCalls
+pub mod RecordsRead
