@@ -21,3 +21,4 @@ pub mod RecordsRows
 pub mod RecordsLink
 pub mod RecordsCalls
 pub mod RecordsRead
+pub mod RecordsTable

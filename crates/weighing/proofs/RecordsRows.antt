@@ -136,3 +136,7 @@ pub upTo-filled : (t : List ℕ) (j : Judged) (links : List Link) → tallied t 
 unfolding upTo filled tallied
 upTo-filled t Accepted links = ap (tallied t) (take-length links)
 upTo-filled t (Refused number place) links = refl
+
+pub tallied-no : (t : List ℕ) (links : List Link) → t ≡ tallied t (take 0 links)
+unfolding tallied
+tallied-no t links = refl

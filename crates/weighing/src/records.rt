@@ -6,9 +6,9 @@ use crate::table::add_link;
 use meaning::Judged;
 use meaning::Link;
 ghost use mathlib.Core.Path.{_≡_};
-ghost use Prim.Native.Nat.{_<_};
+ghost use Prim.Native.Nat.{_<_, _≤_};
 ghost use mathlib.Core.Bool.{true};
-ghost use lib.ListN.{getD, set, take};
+ghost use lib.ListN.{length, getD, set, take};
 ghost use Rattle.meaning.specs.Judge.{first};
 ghost use Rattle.meaning.specs.declared.Judged.the-variants.{Accepted};
 ghost use Rattle.weighing.specs.Links.{linkRows, linksRows, tableRows};
@@ -71,7 +71,7 @@ pub fn judge_records(n: u64, k: u64, links: &[Link]) -> Judged
 }
 
 // One link added.
-fn add_record(table: &mut [u32; 16384], l: Link)
+pub(crate) fn add_record(table: &mut [u32; 16384], l: Link)
     requires { ⌜ (l .a < 128) × (l .b < 128) ⌝ }
     ensures { λ _. ⌜ now (table .exit) ≡ added (now (table .entry)) l ⌝ }
 {
@@ -80,7 +80,7 @@ fn add_record(table: &mut [u32; 16384], l: Link)
 
 // The first links of a run of records added. They were judged: no end is 128 or more.
 fn add_records(links: &[Link], count: usize, table: &mut [u32; 16384])
-    requires { ⌜ first (linksRows 128 0 (take count (now links))) ≡ Accepted ⌝ }
+    requires { ⌜ (count ≤ length (now links)) × (first (linksRows 128 0 (take count (now links))) ≡ Accepted) ⌝ }
     ensures { λ _. ⌜ now (table .exit) ≡ tallied (now (table .entry)) (take count (now (links .entry))) ⌝ }
 {
     let mut i = 0;
