@@ -22,7 +22,11 @@ pub fn link_at(links: &[Link], i: usize) -> Link
     if i < links.len() {
         links[i]
     } else {
-        Link { a: 0, b: 0, tally: 0 }
+        Link {
+            a: 0,
+            b: 0,
+            tally: 0,
+        }
     }
 }
 
@@ -41,7 +45,10 @@ fn up_to(judged: Judged, count: usize) -> usize
 {
     match judged {
         Judged::Accepted => count,
-        Judged::Refused { number: _, place: _ } => 0,
+        Judged::Refused {
+            number: _,
+            place: _,
+        } => 0,
     }
 }
 
@@ -92,8 +99,7 @@ fn add_records(links: &[Link], count: usize, table: &mut [u32; 16384])
 
 // Judges n, k and links lent as records, and adds the links to the table; where they are refused it stays as it was.
 pub fn fill_records(n: u64, k: u64, links: &[Link], table: &mut [u32; 16384]) -> Judged
-    ensures { λ r. ⌜ r ≡ first (tableRows n k true (now (links .entry))) ⌝ }
-    ensures { λ r. ⌜ now (table .exit) ≡ filled r (now (table .entry)) (now (links .entry)) ⌝ }
+    ensures { λ r. ⌜ (r ≡ first (tableRows n k true (now (links .entry)))) × (now (table .exit) ≡ filled r (now (table .entry)) (now (links .entry))) ⌝ }
 {
     let judged = judge_records(n, k, links);
     add_records(links, up_to(judged, links.len()), table);
