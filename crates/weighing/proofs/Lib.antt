@@ -18,7 +18,10 @@ pub mod Searching
 pub mod Growing
 pub mod Flowing
 pub mod RecordsRows
+pub mod RecordsKept
 pub mod RecordsLink
 pub mod RecordsCalls
 pub mod RecordsRead
 pub mod RecordsTable
+pub mod RecordsAgain
+pub mod RecordsStore

@@ -1,9 +1,5 @@
--- A call that a run of link records is passed to, in a walk, said once: the slice is Copy, so a copy of what it owns goes to the callee beside the
--- lifetime's token, which comes back.
+-- The call of `link_at` in a walk over a run of link records, said once: the link is the one in place i.
 --     Own              what a `&[Link]` owns
---     Over             a signature with the one lifetime, and a result of plain data
---     calls-over       the call of such a function, from what it asks made of the slice and the token
---     calls-link-at    the call of `link_at`: the link is the one in place i
 -- Assumes `Given`, and that the table of calls is monotone under a frame.
 use mathlib.Core.Path.{_≡_, refl, sym, ap, subst}
 use Prim.Native.Nat.{ℕ, _<_, _^_}
@@ -38,32 +34,12 @@ use denote.Triple.Clauses.{Clauses, Ended, Lasts, atExit, closing}
 use Rattle.meaning.specs.declared.Link.{Link}
 use Rattle.weighing.specs.Records.{noLink}
 use Rattle.weighing.proofs.RecordsLink.{R, val, IsLink, tells}
-use Rattle.weighing.proofs.RecordsCalls.{calls-to}
+use Rattle.weighing.proofs.RecordsCalls.{calls-over}
 use Rattle.weighing.proofs.records.link_at as link-at
 use Rattle.weighing.proofs.records.link_at.Symbol.{name as #link-at}
 
 abbrev pub Own : Lft → RefT (List Link) → Fml
 Own κ x = ShrSlice (named 0) κ R .own x (slice-vals x)
-
--- a signature with the one lifetime, and a result of plain data
-abbrev pub Over : (ps : List (Slot 1)) → Kepts ps → RattleType → Ended
-Over ps ks B = record { signature = record { lifetimes = 1; outlives = []; params = ps; result = plain (λ _. B) }; kept = ks }
-
-module _ {M : Type 1} {𝓤 : URA M} {H : Heap 𝓤} {A : Atoms 𝓤} {K : Type 0} {W : Given 𝓤 H A} {Γ : List (Item 𝓤)} {E : Env 𝓤 H} {C : Calls 𝓤 H} {Λ : Loops 𝓤 H} {f : Name} {xs : List Operand} {post : Post 𝓤 H} {d : Place} {rest : Body} where
-  module _ (ps : List (Slot 1)) (ks : Kepts ps) (B : RattleType) (low : B .Denot → Val) (tl : Tells B (Is B) (λ r. low r ∷ [])) where
-    pub calls-over : K → FmC 𝓤 H (W .laws) C → (c : Clauses 𝓤 (Over ps ks B)) → Triple 𝓤 (C f) (tripleOf 𝓤 H A (Over ps ks B .signature) (closing 𝓤 H A (Over ps ks B) c))
-        → {κ : Lft} {q : Share} (x : RefT (List Link)) (a : Args (Over ps ks B .signature) (κ, tt)) (vss : Vals (Over ps ks B .signature) (κ, tt)) (g : c (κ, tt) a .ghost)
-        → ent 𝓤 (sep 𝓤 (sem 𝓤 H A (Own κ x)) (A .lft κ q)) (tripleOf 𝓤 H A (Over ps ks B .signature) (closing 𝓤 H A (Over ps ks B) c) .pre (((κ, tt), (q, tt), tt, a, vss), g))
-        → (φ : B .Denot → Type 0) → ((r : B .Denot) (ws : Lasts (Over ps ks B) (κ, tt) a) → ent 𝓤 (c (κ, tt) a .ensures g r (atExit (Over ps ks B) (κ, tt) a ws)) (fact 𝓤 (φ r)))
-        → Opds K W (raw (tripleOf 𝓤 H A (Over ps ks B .signature) (closing 𝓤 H A (Over ps ks B) c) .pre (((κ, tt), (q, tt), tt, a, vss), g)) ∷ ‵ (Own κ x) ∷ Γ) E xs (flat (typesAt ps (κ, tt)) vss)
-        → ((r : B .Denot) → φ r → Is B r (low r ∷ []) → Seq K W (‵ (Own κ x) ∷ ‵ (flft κ q) ∷ Γ) (lands C Λ E d (low r) rest post))
-        → Seq K W (‵ (Own κ x) ∷ ‵ (flft κ q) ∷ Γ) (runs C Λ E (seq (call f xs d) rest) post)
-    calls-over t fm c known {κ} {q} x a vss g goes φ said os k =
-        use1 W (‵ (Own κ x) ⊛ ‵ (Own κ x)) (shr-slice-copy 𝓤 H A W (named 0) κ R .twice x (slice-vals x)) $ split t $ move t (0 ∷ 2 ∷ []) $
-        use2 W (raw (tripleOf 𝓤 H A (Over ps ks B .signature) (closing 𝓤 H A (Over ps ks B) c) .pre (((κ, tt), (q, tt), tt, a, vss), g))) goes $
-        calls-to t fm (Over ps ks B) c known (((κ, tt), (q, tt), tt, a, vss), g) (λ r ws. φ r) said os (λ v r ws e.
-        peeks t B (Is B) (shows 𝓤 H A B) r (v ∷ []) (λ is. drop t $ use1 W (‵ (flft κ q)) (fst∗ 𝓤 _ (emp 𝓤)) $ move t (1 ∷ []) $ drop t $ move t (1 ∷ []) $
-        subst (λ (u : Val). Seq K W (‵ (Own κ x) ∷ ‵ (flft κ q) ∷ Γ) (lands C Λ E d u rest post)) (sym (ap only (tl r (v ∷ []) is))) (k r e (subst (Is B r) (tl r (v ∷ []) is) is))))
 
 module _ {M : Type 1} (𝓤 : URA M) (H : Heap 𝓤) (A : Atoms 𝓤) (mem : Memory → SProp 𝓤) (run : Routine → Fun 𝓤) where
   abbrev pub LinkAt : Contract 𝓤
@@ -79,7 +55,7 @@ module _ {M : Type 1} {𝓤 : URA M} {H : Heap 𝓤} {A : Atoms 𝓤} {K : Type 
       → (IsLink (getD (x .now) i noLink) → Seq K W (‵ (Own κ x) ∷ ‵ (flft κ q) ∷ Γ) (lands C Λ E d (val (getD (x .now) i noLink)) rest post))
       → Seq K W (‵ (Own κ x) ∷ ‵ (flft κ q) ∷ Γ) (runs C Λ E (seq (call #link-at xs d) rest) post)
   calls-link-at t mem run fm known {κ} {q} x i gi os k =
-      calls-over (link-at.signature .params) (link-at.ended .kept) R val tells t fm (link-at.clauses 𝓤 H A mem run) known x (x, (i, tt)) (slice-vals x, (vint w64 i ∷ [], tt)) tt
+      calls-over (link-at.signature .params) (link-at.ended .kept) R val tells t fm (link-at.clauses 𝓤 H A mem run) known (ShrSlice (named 0) κ R) (shr-slice-copy 𝓤 H A W (named 0) κ R) x (slice-vals x) (x, (i, tt)) (slice-vals x, (vint w64 i ∷ [], tt)) tt
       (qed W (‵ (Own κ x) ∷ ‵ (flft κ q) ∷ []) ∵ nothing ! $ owned ! usize (Is usize) (uint-makes 𝓤 H A W w64) i (vint w64 i ∷ []) (refl, gi) $ fjoin ! $ move ! (1 ∷ 0 ∷ []) $ fjoin ! $
       nothing ! $ move ! (2 ∷ 0 ∷ []) $ join ! $ join ! $ frame ! $ done !)
       (λ r. r ≡ getD (x .now) i noLink) (λ r ws. id⊢ 𝓤 _) os (λ r e is.

@@ -68,7 +68,7 @@ unfolding tallied
 tallied-last t [] l = refl
 tallied-last t (k ∷ ls) l = tallied-last (added t k) ls l
 
-take-next : (links : List Link) (i : ℕ) → i < length links → take (i + 1) links ≡ take i links ++ getD links i noLink ∷ []
+pub take-next : (links : List Link) (i : ℕ) → i < length links → take (i + 1) links ≡ take i links ++ getD links i noLink ∷ []
 take-next links i h = rw add-one (take-suc links i noLink h)
 
 -- judging the first i links of a run, after rows 1, 2 and 3 gave `counts`

@@ -13,7 +13,7 @@ ghost use Rattle.meaning.specs.Judge.{first};
 ghost use Rattle.meaning.specs.declared.Judged.the-variants.{Accepted};
 ghost use Rattle.weighing.specs.Links.{linkRows, linksRows, tableRows};
 ghost use Rattle.weighing.specs.Table.{added, tallied, filled};
-ghost use Rattle.weighing.specs.Records.{noLink, firstOf, upTo};
+ghost use Rattle.weighing.specs.Records.{noLink, firstOf, upTo, sameLabel, keptLinks, written};
 
 // The link in place i; past the end, a link of noughts.
 pub fn link_at(links: &[Link], i: usize) -> Link
@@ -104,4 +104,37 @@ pub fn fill_records(n: u64, k: u64, links: &[Link], table: &mut [u32; 16384]) ->
     let judged = judge_records(n, k, links);
     add_records(links, up_to(judged, links.len()), table);
     judged
+}
+
+// Whether both ends of a link carry the same label. No bone from 128 on has one.
+fn same_label(labels: &[u8; 128], l: Link) -> bool
+    ensures { λ r. ⌜ r ≡ sameLabel (now (labels .entry)) l ⌝ }
+{
+    let a = l.a as usize;
+    let b = l.b as usize;
+    if a < 128 {
+        if b < 128 {
+            return labels[a] == labels[b];
+        }
+    }
+    false
+}
+
+// Writes in order the links whose ends carry the same label, and gives their number. Nothing is written past the end of `out`, and the rest of it
+// stays.
+pub fn keep_links(links: &[Link], labels: &[u8; 128], out: &mut [Link]) -> usize
+    ensures { λ r. ⌜ (r ≡ length (keptLinks (now (labels .entry)) (now (links .entry)))) × (now (out .exit) ≡ written (now (out .entry)) (keptLinks (now (labels .entry)) (now (links .entry)))) ⌝ }
+{
+    let count = links.len();
+    let mut kept = 0;
+    let mut i = 0;
+    while i < count {
+        let l = link_at(links, i);
+        if same_label(labels, l) {
+            store_link(out, kept, l);
+            kept += 1;
+        }
+        i += 1;
+    }
+    kept
 }

@@ -46,8 +46,8 @@ use Rattle.weighing.specs.Table.{tallied, filled}
 use Rattle.weighing.specs.Records.{upTo}
 use Rattle.weighing.proofs.RecordsRows.{upTo-most, upTo-accepts, upTo-filled}
 use Rattle.weighing.proofs.RecordsLink.{R, J, judged, told, IsJudged, told-so, typed-judged, made-judged}
-use Rattle.weighing.proofs.RecordsCalls.{calls-to, calls-plain}
-use Rattle.weighing.proofs.RecordsRead.{Own, calls-over}
+use Rattle.weighing.proofs.RecordsCalls.{calls-to, calls-plain, calls-over}
+use Rattle.weighing.proofs.RecordsRead.{Own}
 use Rattle.weighing.proofs.RecordsTable.{Table, OwnTable}
 use Rattle.weighing.proofs.records.judge_records as jud
 use Rattle.weighing.proofs.records.judge_records.Symbol as jud-def
@@ -135,7 +135,7 @@ module _ {M : Type 1} (𝓤 : URA M) (H : Heap 𝓤) (A : Atoms 𝓤) (W : Given
         pass1 ! (init ! 16 refl (tt, record { fits = gn })) $ pass1 ! (init ! 14 refl (tt, record { fits = gk })) $ pass1 ! (init ! 12 refl (tt, (tt, (record { fits = room .0 }, tt)))) $ pass1 ! (init ! 10 refl (tt, tt)) $ pass0 ! $
         move ! (20 ∷ []) $ split ! $ move ! (1 ∷ []) $ split ! $ move ! (1 ∷ []) $ drop ! $ move ! (22 ∷ []) $ fsplit ! $ drop ! $ fsplit ! $ drop ! $ fsplit ! $ move ! (1 ∷ []) $ fsplit ! $ move ! (1 ∷ []) $ drop ! $ move ! (1 ∷ 3 ∷ 0 ∷ 2 ∷ []) $
         -- [what the slice owns; its token; what the table's reference owns; its token; _9; ..; _0; ..]
-        calls-over (jud.signature .params) (jud.ended .kept) J told told-so ! (fmOf 𝓤 H (W .laws) 𝓣) (jud.clauses 𝓤 H A mem run) known-judge x (n, (k, (x, tt))) (vint w64 n ∷ [], (vint w64 k ∷ [], (v ∷ [], tt))) tt goes-judge
+        calls-over (jud.signature .params) (jud.ended .kept) J told told-so ! (fmOf 𝓤 H (W .laws) 𝓣) (jud.clauses 𝓤 H A mem run) known-judge (ShrSlice (named 0) κ₀ R) (shr-slice-copy 𝓤 H A W (named 0) κ₀ R) x (v ∷ []) (n, (k, (x, tt))) (vint w64 n ∷ [], (vint w64 k ∷ [], (v ∷ [], tt))) tt goes-judge
         (λ r. r ≡ first-of (tableRows n k true ys)) (λ r ws. id⊢ 𝓤 _)
         (and-then ! (load ! (from ! (stop !)) (look ! 20 refl)) (and-then ! (load ! (from ! (stop !)) (look ! 18 refl)) (and-then ! (load ! (from ! (stop !)) (look ! 16 refl)) (no-more !)))) (λ j ej isj.
         land ! (from ! (stop !)) (init ! 12 refl (typed-judged 𝓤 H A W j isj)) $
