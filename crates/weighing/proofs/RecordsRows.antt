@@ -16,7 +16,8 @@ use Rattle.meaning.specs.Judge.{first}
 use Rattle.weighing.specs.Links.{linkRows, linksRows, countRows, tableRows}
 use Rattle.weighing.specs.Table.{added, tallied, filled}
 use Rattle.weighing.specs.Records.{noLink, firstOf, upTo}
-use Rattle.weighing.proofs.LinksRows.{counts-accepted, Proper, Propers, links-accepted, links-more, table-counted, table-proper}
+use Rattle.weighing.proofs.TableAdds.{tallied-append}
+use Rattle.weighing.proofs.LinksRows.{counts-accepted, Proper, Propers, links-accepted, links-proper, propers-more, table-counted, table-proper}
 
 -- the first refusal of two, where the first is known
 pub firstOf-accepted : {j : Judged} (k : Judged) → j ≡ Accepted → k ≡ firstOf j k
@@ -63,11 +64,6 @@ links-last n i (k ∷ ls) l =
     ∙ ap (λ (j : Judged). firstOf j (first (linkRows n (suc i + length ls) l))) (sym (first-append (linkRows n i k) (linksRows n (suc i) ls)))
     ∙ ap (λ (m : ℕ). firstOf (first (linkRows n i k ++ linksRows n (suc i) ls)) (first (linkRows n m l))) (suc-add i (length ls) ∙ sym (add-suc i (length ls)))
 
-tallied-last : (t : List ℕ) (ls : List Link) (l : Link) → tallied t (ls ++ l ∷ []) ≡ added (tallied t ls) l
-unfolding tallied
-tallied-last t [] l = refl
-tallied-last t (k ∷ ls) l = tallied-last (added t k) ls l
-
 pub take-next : (links : List Link) (i : ℕ) → i < length links → take (i + 1) links ≡ take i links ++ getD links i noLink ∷ []
 take-next links i h = rw add-one (take-suc links i noLink h)
 
@@ -110,7 +106,8 @@ upTo-most (Refused number place) count = omega arith
 
 -- adding the first i links
 pub tallied-take : (t : List ℕ) (links : List Link) (i : ℕ) → i < length links → added (tallied t (take i links)) (getD links i noLink) ≡ tallied t (take (i + 1) links)
-tallied-take t links i h = sym (tallied-last t (take i links) (getD links i noLink)) ∙ ap (tallied t) (sym (take-next links i h))
+unfolding tallied
+tallied-take t links i h = sym (ap (tallied t) (take-next links i h) ∙ tallied-append t (take i links) (getD links i noLink ∷ []))
 
 -- a link of a list that is accepted among 128 bones has its ends below 128
 propers-at : (n : ℕ) (ls : List Link) (i : ℕ) → Propers n ls → i < length ls → Proper n (getD ls i noLink)
@@ -129,7 +126,7 @@ ends-below links count i ok few h =
 pub upTo-accepts : (n k : ℕ) (j : Judged) (links : List Link) → j ≡ first (tableRows n k true links) → first (linksRows 128 0 (take (upTo j (length links)) links)) ≡ Accepted
 unfolding upTo linksRows first
 upTo-accepts n k Accepted links e =
-    ap (λ (ls : List Link). first (linksRows 128 0 ls)) (take-length links) ∙ links-more n 128 0 links (table-counted n k true links (sym e) .few-bones) (table-proper n k true links (sym e))
+    ap (λ (ls : List Link). first (linksRows 128 0 ls)) (take-length links) ∙ links-proper 128 0 links (propers-more n 128 links (table-counted n k true links (sym e) .few-bones) (table-proper n k true links (sym e)))
 upTo-accepts n k (Refused number place) links e = refl
 
 pub upTo-filled : (t : List ℕ) (j : Judged) (links : List Link) → tallied t (take (upTo j (length links)) links) ≡ filled j t links

@@ -2,11 +2,10 @@
 mod links;
 mod moved;
 mod pass;
+pub mod records;
 mod scan;
 pub mod search;
 mod side;
-pub mod records;
-mod search;
 mod table;
 
 pub use links::judge;
