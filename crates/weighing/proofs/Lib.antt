@@ -22,6 +22,7 @@ pub mod RecordsKept
 pub mod RecordsLink
 pub mod RecordsCalls
 pub mod RecordsRead
+pub mod RecordsShort
 pub mod RecordsTable
 pub mod RecordsAgain
 pub mod RecordsStore
