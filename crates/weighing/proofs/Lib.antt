@@ -17,3 +17,12 @@ pub mod Bits
 pub mod Searching
 pub mod Growing
 pub mod Flowing
+pub mod RecordsRows
+pub mod RecordsKept
+pub mod RecordsLink
+pub mod RecordsCalls
+pub mod RecordsRead
+pub mod RecordsShort
+pub mod RecordsTable
+pub mod RecordsAgain
+pub mod RecordsStore

@@ -2,6 +2,7 @@
 mod links;
 mod moved;
 mod pass;
+pub mod records;
 mod scan;
 pub mod search;
 mod side;
