@@ -15,7 +15,7 @@ use Rattle.meaning.specs.Heap.{Heap}
 use Rattle.meaning.proofs.Tests.{decide, taut, so, _⊃_}
 use Rattle.meaning.proofs.Totals.{Symmetric}
 use Rattle.weighing.specs.Side.{heapOf}
-use Rattle.weighing.specs.Scan.{inBlock, cross, marked, blocks, Room, Grown, Filled, Picked, BlockNames, Kept, Passed}
+use Rattle.weighing.specs.Scan.{inBlock, cross, marked, blocks, Room, Grown, Filled, Picked, BlockNames, Kept, Passed, butFor}
 use Rattle.weighing.proofs.Adjacency.{light-joins}
 use Rattle.weighing.proofs.Merging.{Gone, Choice, names-after, kept-after, fewer-after}
 use Rattle.weighing.proofs.Filling.{cond-yes, cond-no}
@@ -82,7 +82,7 @@ module _ {n : ℕ} {w : Tally} {k : ℕ} {S : Bones} {p : ℕ} {block : List ℕ
     pub start-room : Room (replicate 128 0) 70368744177664
     start-room = state-room begin
 
-    module _ (attach : List ℕ) (grown : Grown (replicate 128 0) attach (λ x. cross n w (inBlock S (heapOf block) (heapOf block p)) (inBlock S (heapOf block) x)) 70368744177664) where
+    module _ (attach : List ℕ) (grown : Grown (replicate 128 0) attach (butFor (heapOf block p) (λ x. cross n w (inBlock S (heapOf block) (heapOf block p)) (inBlock S (heapOf block) x))) 70368744177664) where
       pub start-state : State n w k S (heapOf block) (set free (heapOf block p) 0) attach (set (replicate 128 0) (heapOf block p) (heapOf block p)) (heapOf block p)
       start-state =
           state-taken n w symmetric k S (heapOf block) below most free (replicate 128 0) (replicate 128 0) attach 0 (heapOf block p) (heapOf block p) begin
@@ -142,11 +142,11 @@ module _ {n : ℕ} {w : Tally} {k : ℕ} {S : Bones} {p : ℕ} {block : List ℕ
     unfolding new
     choice =
         ⊎-elim
-        (λ t. inr (last, pass .gone, sym (cond-yes (leb k (getD attach u 0)) (heapOf next last) u t), λ d light. light-joins n w symmetric S (heapOf block) (marked free) k u last (pass .state .bounded) isfree (omega (arith, leb→le k (getD attach u 0) t, pass .state .attached u)) d light))
+        (λ t. inr (last, pass .gone, sym (cond-yes (leb k (getD attach u 0)) (heapOf next last) u t), λ d light. light-joins n w symmetric S (heapOf block) (marked free) k u last (pass .state .bounded) isfree (omega (arith, leb→le k (getD attach u 0) t, pass .state .attached u isfree)) d light))
         (λ f. inl (sym (cond-no (leb k (getD attach u 0)) (heapOf next last) u f)))
         (decide (leb k (getD attach u 0)))
 
-    module _ (attach′ : List ℕ) (grown : Grown attach attach′ (λ x. cross n w (inBlock S (heapOf block) u) (inBlock S (heapOf block) x)) 70368744177664) where
+    module _ (attach′ : List ℕ) (grown : Grown attach attach′ (butFor u (λ x. cross n w (inBlock S (heapOf block) u) (inBlock S (heapOf block) x))) 70368744177664) where
       pub next-state : State n w k S (heapOf block) (set free u 0) attach′ (set next u (cond (leb k (getD attach u 0)) (heapOf next last) u)) u
       unfolding new
       next-state =

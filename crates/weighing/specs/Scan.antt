@@ -34,6 +34,10 @@ cross n w X Y = total n w (λ i j. X i && Y j)
 unfoldable pub reaches : ℕ → Tally → ℕ → Bones → ℕ
 reaches n w b Y = sum n (λ c. cond (Y c) (w b c) 0)
 
+-- a number for every block, nought for the block u itself
+unfoldable pub butFor : ℕ → (ℕ → ℕ) → ℕ → ℕ
+butFor u f x = cond (eqb x u) 0 (f x)
+
 -- a run of 128 sums, to each of which as much as `most` can be added
 pub record Room (sums : List ℕ) (most : ℕ) : Type 0 where
   pub long : length sums ≡ 128

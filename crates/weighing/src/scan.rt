@@ -13,6 +13,7 @@ ghost use Rattle.weighing.specs.Scan.{
   cross,
   reaches,
   marked,
+  butFor,
   Room,
   Grown,
   Filled,
@@ -40,13 +41,14 @@ fn tally(table: &[u32; 16384], i: usize, j: usize) -> u64
     wide(tally_at(table, i, j))
 }
 
-// The tally of bones b and c goes to the attachment of c's block, where c is in the pile.
+// The tally of bones b and c goes to the attachment of c's block, where c is in the pile and its block is not u, that of b.
 fn add_pair(
     table: &[u32; 16384],
     names: &[u8; 128],
     block: &[u8; 128],
     n: usize,
     p: usize,
+    u: usize,
     b: usize,
     c: usize,
     attach: &mut [u64; 128],
@@ -54,31 +56,34 @@ fn add_pair(
     requires { ⌜ (n ≤ 128) × (b < n) × (c < n) ⌝ }
     requires { ⌜ (T (pile n (heapOf (now names)) p c) → heapOf (now block) c < n) ⌝ }
     requires { ⌜ Room (now attach) (2 ^ 32) ⌝ }
-    ensures { λ r. ⌜ Grown (now (attach .entry)) (now (attach .exit)) (λ x. cond (inBlock (pile n (heapOf (now (names .entry))) p) (heapOf (now (block .entry))) x c) (held (now (table .entry)) b c) 0) (2 ^ 32) ⌝ }
+    ensures { λ r. ⌜ Grown (now (attach .entry)) (now (attach .exit)) (butFor u (λ x. cond (inBlock (pile n (heapOf (now (names .entry))) p) (heapOf (now (block .entry))) x c) (held (now (table .entry)) b c) 0)) (2 ^ 32) ⌝ }
 {
     if bone(names[c]) == p {
         let x = bone(block[c]);
-        attach[x] = attach[x] + tally(table, b, c);
+        if x != u {
+            attach[x] = attach[x] + tally(table, b, c);
+        }
     }
 }
 
-// The tallies of bone b with every bone of the pile go to the attachments of their blocks.
+// The tallies of bone b of the block u with every bone of the pile go to the attachments of their blocks, but for u itself.
 fn add_bone(
     table: &[u32; 16384],
     names: &[u8; 128],
     block: &[u8; 128],
     n: usize,
     p: usize,
+    u: usize,
     b: usize,
     attach: &mut [u64; 128],
 )
     requires { ⌜ (n ≤ 128) × (b < n) ⌝ }
     requires { ⌜ ((c : ℕ) → T (pile n (heapOf (now names)) p c) → heapOf (now block) c < n) ⌝ }
     requires { ⌜ Room (now attach) (2 ^ 39) ⌝ }
-    ensures { λ r. ⌜ Grown (now (attach .entry)) (now (attach .exit)) (λ x. reaches n (held (now (table .entry))) b (inBlock (pile n (heapOf (now (names .entry))) p) (heapOf (now (block .entry))) x)) (2 ^ 39) ⌝ }
+    ensures { λ r. ⌜ Grown (now (attach .entry)) (now (attach .exit)) (butFor u (λ x. reaches n (held (now (table .entry))) b (inBlock (pile n (heapOf (now (names .entry))) p) (heapOf (now (block .entry))) x))) (2 ^ 39) ⌝ }
 {
     for c in 0..n {
-        add_pair(table, names, block, n, p, b, c, attach);
+        add_pair(table, names, block, n, p, u, b, c, attach);
     }
 }
 
@@ -96,16 +101,16 @@ fn add_member(
     requires { ⌜ (n ≤ 128) × (b < n) ⌝ }
     requires { ⌜ ((c : ℕ) → T (pile n (heapOf (now names)) p c) → heapOf (now block) c < n) ⌝ }
     requires { ⌜ Room (now attach) (2 ^ 39) ⌝ }
-    ensures { λ r. ⌜ Grown (now (attach .entry)) (now (attach .exit)) (λ x. cond (inBlock (pile n (heapOf (now (names .entry))) p) (heapOf (now (block .entry))) u b) (reaches n (held (now (table .entry))) b (inBlock (pile n (heapOf (now (names .entry))) p) (heapOf (now (block .entry))) x)) 0) (2 ^ 39) ⌝ }
+    ensures { λ r. ⌜ Grown (now (attach .entry)) (now (attach .exit)) (λ x. cond (inBlock (pile n (heapOf (now (names .entry))) p) (heapOf (now (block .entry))) u b) (butFor u (λ y. reaches n (held (now (table .entry))) b (inBlock (pile n (heapOf (now (names .entry))) p) (heapOf (now (block .entry))) y)) x) 0) (2 ^ 39) ⌝ }
 {
     if bone(names[b]) == p {
         if bone(block[b]) == u {
-            add_bone(table, names, block, n, p, b, attach);
+            add_bone(table, names, block, n, p, u, b, attach);
         }
     }
 }
 
-// The block u is taken: its tally with every block goes to that block's attachment.
+// The block u is taken: its tally with every other block goes to that block's attachment.
 fn add_block(
     table: &[u32; 16384],
     names: &[u8; 128],
@@ -118,7 +123,7 @@ fn add_block(
     requires { ⌜ n ≤ 128 ⌝ }
     requires { ⌜ ((c : ℕ) → T (pile n (heapOf (now names)) p c) → heapOf (now block) c < n) ⌝ }
     requires { ⌜ Room (now attach) (2 ^ 46) ⌝ }
-    ensures { λ r. ⌜ Grown (now (attach .entry)) (now (attach .exit)) (λ x. cross n (held (now (table .entry))) (inBlock (pile n (heapOf (now (names .entry))) p) (heapOf (now (block .entry))) u) (inBlock (pile n (heapOf (now (names .entry))) p) (heapOf (now (block .entry))) x)) (2 ^ 46) ⌝ }
+    ensures { λ r. ⌜ Grown (now (attach .entry)) (now (attach .exit)) (butFor u (λ x. cross n (held (now (table .entry))) (inBlock (pile n (heapOf (now (names .entry))) p) (heapOf (now (block .entry))) u) (inBlock (pile n (heapOf (now (names .entry))) p) (heapOf (now (block .entry))) x))) (2 ^ 46) ⌝ }
 {
     for b in 0..n {
         add_member(table, names, block, n, p, u, b, attach);
@@ -259,7 +264,7 @@ pub(crate) fn take(
     requires { ⌜ ((c : ℕ) → T (pile n (heapOf (now names)) p c) → heapOf (now block) c < n) ⌝ }
     requires { ⌜ Room (now attach) (2 ^ 46) ⌝ }
     ensures { λ r. ⌜ now (free .exit) ≡ set (now (free .entry)) u 0 ⌝ }
-    ensures { λ r. ⌜ Grown (now (attach .entry)) (now (attach .exit)) (λ x. cross n (held (now (table .entry))) (inBlock (pile n (heapOf (now (names .entry))) p) (heapOf (now (block .entry))) u) (inBlock (pile n (heapOf (now (names .entry))) p) (heapOf (now (block .entry))) x)) (2 ^ 46) ⌝ }
+    ensures { λ r. ⌜ Grown (now (attach .entry)) (now (attach .exit)) (butFor u (λ x. cross n (held (now (table .entry))) (inBlock (pile n (heapOf (now (names .entry))) p) (heapOf (now (block .entry))) u) (inBlock (pile n (heapOf (now (names .entry))) p) (heapOf (now (block .entry))) x))) (2 ^ 46) ⌝ }
 {
     free[u] = 0;
     add_block(table, names, block, n, p, u, attach);

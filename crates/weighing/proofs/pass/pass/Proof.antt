@@ -14,7 +14,7 @@ use Rattle.meaning.specs.Heap.{Heap, pile, stands}
 use Rattle.meaning.proofs.Heaps.{pile-bone}
 use Rattle.weighing.specs.Table.{held}
 use Rattle.weighing.specs.Side.{heapOf}
-use Rattle.weighing.specs.Scan.{inBlock, cross, marked, Grown, Picked, Passed}
+use Rattle.weighing.specs.Scan.{inBlock, cross, marked, Grown, Picked, Passed, butFor}
 use Rattle.weighing.proofs.TableHeld.{held-symmetric}
 use Rattle.weighing.proofs.Scanning.{State}
 use Rattle.weighing.proofs.Passing.{Given, Pass, name-small, state-room, state-most, start-room, start-state, pass-start, passed-alone, passed-light, next-state, next-count, pass-next, passed-joined}
@@ -100,11 +100,11 @@ first-of t = heapOf (t .before .before .before .before .before .before .before .
 first-free : (t : tie.After-take Inv-loop μ-loop) → free-of t ≡ set (marks t) (first-of t) 0
 first-free t = t .take .ensures .0 ∙ ap (λ (x : ℕ). set (marks t) x 0) (first-name (t .before .before .before .before))
 
-first-grown : (t : tie.After-take Inv-loop μ-loop) → let s = t .before .before .before .before .before .before .before .before .before in Grown (replicate 128 0) (attach-of t) (λ x. cross (s .args .n) (held (s .args .table .now)) (inBlock (S-of s) (heapOf (s .args .block .now)) (first-of t)) (inBlock (S-of s) (heapOf (s .args .block .now)) x)) 70368744177664
+first-grown : (t : tie.After-take Inv-loop μ-loop) → let s = t .before .before .before .before .before .before .before .before .before in Grown (replicate 128 0) (attach-of t) (butFor (first-of t) (λ x. cross (s .args .n) (held (s .args .table .now)) (inBlock (S-of s) (heapOf (s .args .block .now)) (first-of t)) (inBlock (S-of s) (heapOf (s .args .block .now)) x))) 70368744177664
 first-grown t =
     let s = t .before .before .before .before .before .before .before .before .before in
     subst
-    (λ (u : ℕ). Grown (replicate 128 0) (attach-of t) (λ x. cross (s .args .n) (held (s .args .table .now)) (inBlock (S-of s) (heapOf (s .args .block .now)) u) (inBlock (S-of s) (heapOf (s .args .block .now)) x)) 70368744177664)
+    (λ (u : ℕ). Grown (replicate 128 0) (attach-of t) (butFor u (λ x. cross (s .args .n) (held (s .args .table .now)) (inBlock (S-of s) (heapOf (s .args .block .now)) u) (inBlock (S-of s) (heapOf (s .args .block .now)) x))) 70368744177664)
     (first-name (t .before .before .before .before)) (t .take .ensures .1)
 
 pick-requires : tie.Need-pick-requires Inv-loop μ-loop
