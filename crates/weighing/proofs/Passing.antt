@@ -182,8 +182,8 @@ module _ {n : ℕ} {w : Tally} {k : ℕ} {S : Bones} {p : ℕ} {block : List ℕ
               ∙ e
 
   -- ---- the end: nothing is free
-  pub passed-joined : (free attach next block′ : List ℕ) (last u out : ℕ) → Pass n w k S p (heapOf block) free attach next last u out → 128 ≤ u → Filled block block′ (λ b. cond (S b) (heapOf next (heapOf block b)) (heapOf block b)) n → Passed n w k S p (heapOf block) block′ free false false 0
-  passed-joined free attach next block′ last u out pass none filled =
+  pub passed-joined : (free attach next block′ : List ℕ) (last u out : ℕ) (one : Bool) → Pass n w k S p (heapOf block) free attach next last u out → 128 ≤ u → Filled block block′ (λ b. cond (S b) (heapOf next (heapOf block b)) (heapOf block b)) n → (one ≡ true → (b : ℕ) → T (S b) → heapOf block′ b ≡ heapOf block′ p) → Passed n w k S p (heapOf block) block′ free false one 0
+  passed-joined free attach next block′ last u out one pass none filled all =
       record {
         long = filled .long;
         free-long = pass .state .free-long;
@@ -191,7 +191,7 @@ module _ {n : ℕ} {w : Tally} {k : ℕ} {S : Bones} {p : ℕ} {block : List ℕ
         names = names-after n w k S (heapOf block) (marked free) (heapOf next) (heapOf block′) names shut (pass .state .merged) renamed;
         kept = kept-after n w k S (heapOf block) (marked free) (heapOf next) (heapOf block′) names shut (pass .state .merged) renamed;
         found = λ e. absurd (false-true e);
-        alone = λ e f. absurd (false-true f);
+        alone = λ e f. all f;
         fewer = λ e f. fewer-after n w k S (heapOf block) (marked free) (heapOf next) (heapOf block′) names shut (pass .state .merged) renamed last (below last (pass .gone .bone)) (pass .gone) (pass .lost none);
       }
     where

@@ -1,7 +1,7 @@
 // The parts of a scan: the tallies between a block that is taken and every block of the pile.
 use crate::table::tally_at;
 ghost use mathlib.Core.Path.{_≡_};
-ghost use mathlib.Core.Bool.{cond, _&&_};
+ghost use mathlib.Core.Bool.{true, cond, not, _&&_};
 ghost use Prim.Native.Nat.{ℕ, _+_, _*_, _<_, _≤_, _^_};
 ghost use lib.Dec.{T, eqb, leb};
 ghost use lib.ListN.{length, getD, set};
@@ -237,6 +237,33 @@ pub(crate) fn rename(names: &[u8; 128], next: &[u8; 128], n: usize, p: usize, bl
     for b in 0..n {
         block[b] = next_name(names, block, next, n, p, b);
     }
+}
+
+// Whether bone b is in the pile and in another block than `first`.
+fn strays(names: &[u8; 128], block: &[u8; 128], n: usize, p: usize, first: u8, b: usize) -> bool
+    requires { ⌜ (n ≤ 128) × (b < n) ⌝ }
+    ensures { λ r. ⌜ r ≡ (pile n (heapOf (now (names .entry))) p b && not (eqb (heapOf (now (block .entry)) b) first)) ⌝ }
+{
+    if bone(names[b]) == p {
+        if block[b] != first {
+            return true;
+        }
+    }
+    false
+}
+
+// Whether the pile is one block.
+pub(crate) fn one_block(names: &[u8; 128], block: &[u8; 128], n: usize, p: usize) -> bool
+    requires { ⌜ (n ≤ 128) × (p < n) ⌝ }
+    ensures { λ r. ⌜ (r ≡ true → (b : ℕ) → T (pile n (heapOf (now (names .entry))) p b) → heapOf (now (block .entry)) b ≡ heapOf (now (block .entry)) p) ⌝ }
+{
+    let first = block[p];
+    for b in 0..n {
+        if strays(names, block, n, p, first, b) {
+            return false;
+        }
+    }
+    true
 }
 
 // Every bone is a block of its own.

@@ -208,11 +208,16 @@ rename-requires c κs =
     let s = c .before .before .before .before .before .before .before .before .before .before .before .before .before .before .before .before .before in
     ((s .pre .0 .0, s .pre .0 .1), name-small (given s))
 
+one-block-requires : tie.Need-one-block-requires Inv-loop μ-loop
+one-block-requires c κs =
+    let s = c .before .before .before .before .before .before .before .before .before .before .before .before .before .before .before .before .before .before .before in
+    (s .pre .0 .0, given s .below (s .args .p) (given s .standing))
+
 returns-3 : tie.Need-returns-3 Inv-loop μ-loop
 returns-3 c =
-    let s = c .before .before .before .before .before .before .before .before .before .before .before .before .before .before .before .before .before .before in
-    let l = c .before .before .before .before .loop in
-    passed-joined (given s) (l .free) (l .attach) (l .next) _ (l .last) (l .u) (l .out) (l .inv) (c .before .before .before .loop-test .left) (c .rename .ensures)
+    let s = c .before .before .before .before .before .before .before .before .before .before .before .before .before .before .before .before .before .before .before .before in
+    let l = c .before .before .before .before .before .before .loop in
+    passed-joined (given s) (l .free) (l .attach) (l .next) _ (l .last) (l .u) (l .out) _ (l .inv) (c .before .before .before .before .before .loop-test .left) (c .before .before .rename .ensures) (c .one-block .ensures)
 
 pub pass-spec : {M : Type 1} → statement M
 pass-spec =
@@ -235,4 +240,5 @@ pass-spec =
     loop-less
     loop-again
     rename-requires
+    one-block-requires
     returns-3)
