@@ -9,9 +9,10 @@ ghost use Rattle.meaning.specs.Heap.{pile};
 ghost use Rattle.weighing.specs.Table.{held};
 ghost use Rattle.weighing.specs.Side.{heapOf};
 ghost use Rattle.weighing.specs.Scan.{
-  inBlock,
-  cross,
-  reaches,
+  blockAt,
+  BoneNames,
+  blockTally,
+  boneTally,
   marked,
   butFor,
   Room,
@@ -56,7 +57,7 @@ fn add_pair(
     requires { ⌜ (n ≤ 128) × (b < n) × (c < n) ⌝ }
     requires { ⌜ (T (pile n (heapOf (now names)) p c) → heapOf (now block) c < n) ⌝ }
     requires { ⌜ Room (now attach) (2 ^ 32) ⌝ }
-    ensures { λ r. ⌜ Grown (now (attach .entry)) (now (attach .exit)) (butFor u (λ x. cond (inBlock (pile n (heapOf (now (names .entry))) p) (heapOf (now (block .entry))) x c) (held (now (table .entry)) b c) 0)) (2 ^ 32) ⌝ }
+    ensures { λ r. ⌜ Grown (now (attach .entry)) (now (attach .exit)) (butFor u (λ x. cond (blockAt n (now (names .entry)) p (now (block .entry)) x c) (held (now (table .entry)) b c) 0)) (2 ^ 32) ⌝ }
 {
     if bone(names[c]) == p {
         let x = bone(block[c]);
@@ -78,9 +79,9 @@ fn add_bone(
     attach: &mut [u64; 128],
 )
     requires { ⌜ (n ≤ 128) × (b < n) ⌝ }
-    requires { ⌜ ((c : ℕ) → T (pile n (heapOf (now names)) p c) → heapOf (now block) c < n) ⌝ }
+    requires { ⌜ BoneNames n (now names) p (now block) ⌝ }
     requires { ⌜ Room (now attach) (2 ^ 39) ⌝ }
-    ensures { λ r. ⌜ Grown (now (attach .entry)) (now (attach .exit)) (butFor u (λ x. reaches n (held (now (table .entry))) b (inBlock (pile n (heapOf (now (names .entry))) p) (heapOf (now (block .entry))) x))) (2 ^ 39) ⌝ }
+    ensures { λ r. ⌜ Grown (now (attach .entry)) (now (attach .exit)) (butFor u (boneTally n (now (table .entry)) (now (names .entry)) p (now (block .entry)) b)) (2 ^ 39) ⌝ }
 {
     for c in 0..n {
         add_pair(table, names, block, n, p, u, b, c, attach);
@@ -99,9 +100,9 @@ fn add_member(
     attach: &mut [u64; 128],
 )
     requires { ⌜ (n ≤ 128) × (b < n) ⌝ }
-    requires { ⌜ ((c : ℕ) → T (pile n (heapOf (now names)) p c) → heapOf (now block) c < n) ⌝ }
+    requires { ⌜ BoneNames n (now names) p (now block) ⌝ }
     requires { ⌜ Room (now attach) (2 ^ 39) ⌝ }
-    ensures { λ r. ⌜ Grown (now (attach .entry)) (now (attach .exit)) (λ x. cond (inBlock (pile n (heapOf (now (names .entry))) p) (heapOf (now (block .entry))) u b) (butFor u (λ y. reaches n (held (now (table .entry))) b (inBlock (pile n (heapOf (now (names .entry))) p) (heapOf (now (block .entry))) y)) x) 0) (2 ^ 39) ⌝ }
+    ensures { λ r. ⌜ Grown (now (attach .entry)) (now (attach .exit)) (λ x. cond (blockAt n (now (names .entry)) p (now (block .entry)) u b) (butFor u (boneTally n (now (table .entry)) (now (names .entry)) p (now (block .entry)) b) x) 0) (2 ^ 39) ⌝ }
 {
     if bone(names[b]) == p {
         if bone(block[b]) == u {
@@ -121,9 +122,9 @@ fn add_block(
     attach: &mut [u64; 128],
 )
     requires { ⌜ n ≤ 128 ⌝ }
-    requires { ⌜ ((c : ℕ) → T (pile n (heapOf (now names)) p c) → heapOf (now block) c < n) ⌝ }
+    requires { ⌜ BoneNames n (now names) p (now block) ⌝ }
     requires { ⌜ Room (now attach) (2 ^ 46) ⌝ }
-    ensures { λ r. ⌜ Grown (now (attach .entry)) (now (attach .exit)) (butFor u (λ x. cross n (held (now (table .entry))) (inBlock (pile n (heapOf (now (names .entry))) p) (heapOf (now (block .entry))) u) (inBlock (pile n (heapOf (now (names .entry))) p) (heapOf (now (block .entry))) x))) (2 ^ 46) ⌝ }
+    ensures { λ r. ⌜ Grown (now (attach .entry)) (now (attach .exit)) (butFor u (blockTally n (now (table .entry)) (now (names .entry)) p (now (block .entry)) u)) (2 ^ 46) ⌝ }
 {
     for b in 0..n {
         add_member(table, names, block, n, p, u, b, attach);
@@ -231,7 +232,7 @@ fn next_name(
 // The blocks are renamed.
 pub(crate) fn rename(names: &[u8; 128], next: &[u8; 128], n: usize, p: usize, block: &mut [u8; 128])
     requires { ⌜ (n ≤ 128) × (length (now block) ≡ 128) ⌝ }
-    requires { ⌜ ((b : ℕ) → T (pile n (heapOf (now names)) p b) → heapOf (now block) b < n) ⌝ }
+    requires { ⌜ BoneNames n (now names) p (now block) ⌝ }
     ensures { λ r. ⌜ Filled (now (block .entry)) (now (block .exit)) (λ b. cond (pile n (heapOf (now (names .entry))) p b) (heapOf (now (next .entry)) (heapOf (now (block .entry)) b)) (heapOf (now (block .entry)) b)) n ⌝ }
 {
     for b in 0..n {
@@ -288,10 +289,10 @@ pub(crate) fn take(
     attach: &mut [u64; 128],
 )
     requires { ⌜ (n ≤ 128) × (u < 128) ⌝ }
-    requires { ⌜ ((c : ℕ) → T (pile n (heapOf (now names)) p c) → heapOf (now block) c < n) ⌝ }
+    requires { ⌜ BoneNames n (now names) p (now block) ⌝ }
     requires { ⌜ Room (now attach) (2 ^ 46) ⌝ }
     ensures { λ r. ⌜ now (free .exit) ≡ set (now (free .entry)) u 0 ⌝ }
-    ensures { λ r. ⌜ Grown (now (attach .entry)) (now (attach .exit)) (butFor u (λ x. cross n (held (now (table .entry))) (inBlock (pile n (heapOf (now (names .entry))) p) (heapOf (now (block .entry))) u) (inBlock (pile n (heapOf (now (names .entry))) p) (heapOf (now (block .entry))) x))) (2 ^ 46) ⌝ }
+    ensures { λ r. ⌜ Grown (now (attach .entry)) (now (attach .exit)) (butFor u (blockTally n (now (table .entry)) (now (names .entry)) p (now (block .entry)) u)) (2 ^ 46) ⌝ }
 {
     free[u] = 0;
     add_block(table, names, block, n, p, u, attach);
