@@ -24,5 +24,7 @@ pub mod RecordsCalls
 pub mod RecordsRead
 pub mod RecordsShort
 pub mod RecordsTable
+pub mod RecordsLocal
+pub mod RecordsFill
 pub mod RecordsAgain
 pub mod RecordsStore
