@@ -1,0 +1,3 @@
+-- The laws of cutting.
+pub mod Entries
+pub mod Cuts
