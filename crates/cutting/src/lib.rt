@@ -1,4 +1,5 @@
 // Cutting: the record of cuts, checking, grouping and thinning, and the calls from C.
+mod heap;
 pub mod record;
 
 // What grouping and checking answer: a refusal of the table with its place, or the number of groups (of piles) and whether the run of cuts

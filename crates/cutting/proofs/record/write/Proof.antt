@@ -43,7 +43,7 @@ returns-2 c =
     let at = s .args .i * entrySize in
     let long : length (e .side) ≡ 16 = sym (length-map (e .side) _) ∙ s .good .1 .1 .0 .1 .1 .1 .1 .0 .1 .0 .1 in
     c .before .before .copy .ensures
-    ∙ ap (λ (x : List ℕ). paste x (at + 5) (e .side) (length (e .side))) (c .before .before .before .before .before .before .before .before .put-head .ensures)
+    ∙ ap (λ (x : List ℕ). paste x (s .args .i * entrySize + 5) (e .side) (length (e .side))) (c .before .before .before .before .before .before .before .before .put-head .ensures)
     ∙ paste-more (s .args .space .now) at (headBytes (e .pile) (e .weight)) (e .side) (omega arith)
     ∙ ap (λ (m : ℕ). paste (s .args .space .now) at (entryBytes e) (5 + m)) long
     ∙ sym (put-whole (s .args .space .now) (s .args .i) e (c .before .before .before .before .before .before .before .before .before .before .if1 .left))
