@@ -1,39 +1,24 @@
--- Two tallies that agree on any two different bones below n give the same weights, and so the same firm sets, labels, groups, refusals and
+-- Two tallies that agree on any two bones below n give the same weights, and so the same firm sets, labels, groups, refusals and
 -- lawful runs. A table and the links that fill it hold such tallies.
 -- Assumes nothing.
 use Prim.Native.Nat.{ℕ, suc, _<_}
-use mathlib.Core.Path.{_≡_, refl, sym, _∙_, ap, ap₂, subst, fun-ext}
-use mathlib.Core.Logic.{⊎-elim}
-use mathlib.Core.Bool.{Bool, true, false, cond, not, _&&_, _||_}
+use mathlib.Core.Path.{_≡_, refl, _∙_, ap₂, fun-ext}
+use mathlib.Core.Bool.{Bool, not, _&&_, _||_}
 use mathlib.Core.List.{List, [], _∷_, _++_}
-use lib.Dec.{T, leb, eqb, T-not}
+use lib.Dec.{leb, eqb}
 use Rattle.meaning.specs.Count.{Bones, someSet, everySet, every, least, count}
-use Rattle.meaning.specs.Tally.{Tally, total, weight}
+use Rattle.meaning.specs.Tally.{Tally, weight}
 use Rattle.meaning.specs.Firm.{splits, firm, group, label, groups}
 use Rattle.meaning.specs.Heap.{Heap, Cut, Lawful, LawfulRun, parted, pile, stands, finished}
-use Rattle.meaning.proofs.Tests.{decide, is-true, is-false, taut, so, _⊃_}
-use Rattle.meaning.proofs.Sums.{sum-ext}
+use Rattle.meaning.proofs.Firm.{weight-same}
 use Rattle.cutting.specs.Rows.{entryRows, entriesRows}
 
 abbrev pub Alike : ℕ → Tally → Tally → Type 0
-Alike n v w = (i j : ℕ) → i < n → j < n → (i ≡ j → ⊥) → v i j ≡ w i j
+Alike n v w = (i j : ℕ) → i < n → j < n → v i j ≡ w i j
 
 module _ (n : ℕ) (v w : Tally) (e : Alike n v w) where
-  crossing : (S A : Bones) (i j : ℕ) → i < n → j < n → cond ((S i && A i) && (S j && not (A j))) (v i j) 0 ≡ cond ((S i && A i) && (S j && not (A j))) (w i j) 0
-  crossing S A i j hi hj =
-      ⊎-elim
-      (λ t. ap (λ (x : ℕ). cond ((S i && A i) && (S j && not (A j))) x 0)
-      (e i j hi hj
-      (λ q. T-not (A j)
-      (taut 4 (λ p a q b. ((p && a) && (q && not b)) ⊃ so (not b)) tt (S i) (A i) (S j) (A j) t)
-      (subst (λ (x : ℕ). T (A x)) q (taut 4 (λ p a q b. ((p && a) && (q && not b)) ⊃ so a) tt (S i) (A i) (S j) (A j) t)))))
-      (λ f. let off = is-false ((S i && A i) && (S j && not (A j))) f in
-      ap (λ (b : Bool). cond b (v i j) 0) off ∙ sym (ap (λ (b : Bool). cond b (w i j) 0) off))
-      (decide ((S i && A i) && (S j && not (A j))))
-
   pub weight-alike : weight n v ≡ weight n w
-  unfolding weight total
-  weight-alike = fun-ext (λ S. fun-ext (λ A. sum-ext n _ _ (λ i hi. sum-ext n _ _ (λ j hj. crossing S A i j hi hj))))
+  weight-alike = fun-ext (λ S. fun-ext (λ A. weight-same n v w S S A A e (λ b h. refl) (λ b h. refl)))
 
   pub firm-alike : (k : ℕ) → firm n v k ≡ firm n w k
   unfolding firm

@@ -1,7 +1,7 @@
 -- Rows 10 to 13 and lawful cuts: the rows accept an entry exactly if its cut is lawful, they accept a record exactly if it is a lawful run,
 -- and a refusal's place is the first entry that is not lawful.
 -- Assumes nothing.
-use Prim.Native.Nat.{ℕ, zero, suc, _+_, _/_, _%_, _^_, _≤_, _<_}
+use Prim.Native.Nat.{ℕ, zero, suc, _+_, _/_, _%_, _^_, _≤_, _<_, min}
 use mathlib.Core.Path.{_≡_, refl, sym, _∙_, ap, subst}
 use mathlib.Core.Logic.{⊎-elim}
 use mathlib.Core.Bool.{Bool, true, false, not, _&&_, _||_}
@@ -10,7 +10,7 @@ use native.Mathlib.Nat.{zero-div}
 use native.Mathlib.Omega.{arith}
 use lib.Dec.{T, eqb, ltb, T-not, not-T, ltb→lt, nltb→le}
 use lib.ListN.{length, getD, take, drop, List·getD-eq-default, length-take}
-use borrow.Author.Tests.{eq-eqb, lt-leb, leb-false, eqb-true, not-false}
+use borrow.Author.Tests.{eq-eqb, ne-eqb, le-leb, lt-leb, leb-false, eqb-true, not-false}
 use Rattle.meaning.specs.declared.Judged.{Judged}
 use Rattle.meaning.specs.declared.Judged.the-variants.{Accepted, Refused}
 use Rattle.meaning.specs.Judge.{refuse, first}
@@ -22,8 +22,8 @@ use Rattle.meaning.proofs.Sets.{some-intro, some-elim}
 use Rattle.meaning.proofs.Heaps.{pile-bone}
 use Rattle.weighing.specs.Side.{sideOf}
 use Rattle.cutting.specs.Record.{entrySize, entryOf, cutOf, cutsIn}
-use Rattle.cutting.specs.Rows.{entryRows, entriesRows}
-use Rattle.cutting.proofs.Judging.{never-both, first-accepted, first-refused, accepted-left, accepted-right}
+use Rattle.cutting.specs.Rows.{astray, entryRows, entriesRows}
+use Rattle.weighing.proofs.LinksRows.{never-both, first-accepted, first-refused, accepted-left, accepted-right}
 
 -- ---- sides of 128 bits
 
@@ -51,6 +51,17 @@ unfolding cutsIn cutOf entryOf
 narrow-cuts zero bytes = tt
 narrow-cuts (suc m) bytes = (narrow-side (take 16 (drop 5 bytes)) (simp length-take (omega arith)), narrow-cuts m (drop entrySize bytes))
 
+-- a pile that stands has the name of a bone
+pub stands-bone : (n : ℕ) (h : Heap) (name : ℕ) → stands n h name ≡ true → name < n
+unfolding stands
+stands-bone n h name e = pile-bone n h name name (holds e)
+
+-- weighing takes no more than 128 bones
+pub weighed : {r : ℕ} (n : ℕ) (w : Tally) (h : Heap) (name : ℕ) (side : Bones) → n ≤ 128 → r ≡ weight (min n 128) w (pile (min n 128) h name) side → r ≡ weight n w (pile n h name) side
+weighed {r} n w h name side few e =
+    let same : min n 128 ≡ n = omega arith in
+    subst (λ (m : ℕ). r ≡ weight m w (pile m h name) side) same e
+
 -- ---- one entry
 
 -- what a row accepts, and the rows behind it
@@ -69,13 +80,27 @@ unfolding refuse first
 row-place i number place true m js e f = cc
 row-place i number place false m js e f = f e
 
+-- row 11's words, tried in turn
+module _ (n : ℕ) (h : Heap) (name : ℕ) (side : Bones) where
+  pub astray-none : some 128 side ≡ false → true ≡ astray n h name side
+  unfolding astray
+  astray-none e = rw e
+
+  pub astray-least : some 128 side ≡ true → side name ≡ true → true ≡ astray n h name side
+  unfolding astray
+  astray-least e f = rw (e, f)
+
+  pub astray-rest : {r : Bool} → some 128 side ≡ true → side name ≡ false → r ≡ some 128 (λ b. side b && not (pile n h name b)) → r ≡ astray n h name side
+  unfolding astray
+  astray-rest e f g = rw (e, f) g
+
 module _ (n : ℕ) (w : Tally) (k : ℕ) (h : Heap) (c : Cut) where
   -- the side holds a bone outside the pile
   strays : Bool
   strays = some 128 (λ b. c .side b && not (pile n h (c .name) b))
 
   pub entry-lawful : (i : ℕ) → Narrow c → first (entryRows n w k h i c) ≡ Accepted → Lawful n w k h c
-  unfolding entryRows strays
+  unfolding entryRows astray strays
   entry-lawful i narrow e =
       let ten = row-accepted (not (stands n h (c .name))) 10 i _ e in
       let eleven = row-accepted _ 11 i _ (ten .1) in
@@ -99,7 +124,7 @@ module _ (n : ℕ) (w : Tally) (k : ℕ) (h : Heap) (c : Cut) where
       }
 
   pub lawful-entry : (i : ℕ) → n ≤ 128 → Lawful n w k h c → first (entryRows n w k h i c) ≡ Accepted
-  unfolding entryRows refuse first
+  unfolding entryRows astray refuse first
   lawful-entry i few law =
       let moved = some-elim n (c .side) (law .moving) in
       let stray : T (not (some 128 (λ b. c .side b && not (pile n h (c .name) b)))) =
@@ -107,6 +132,27 @@ module _ (n : ℕ) (w : Tally) (k : ℕ) (h : Heap) (c : Cut) where
       T-not (pile n h (c .name) (r .0)) (right-of (c .side (r .0)) (not (pile n h (c .name) (r .0))) (r .2)) (law .within (r .0) (left-of (c .side (r .0)) (not (pile n h (c .name) (r .0))) (r .2)))) in
       simp
       (is-true (stands n h (c .name)) (law .standing), is-true (some 128 (c .side)) (some-intro 128 (c .side) (moved .0) (omega (arith, moved .1)) (moved .2)), is-false (c .side (c .name)) (law .staying), is-false (some 128 (λ b. c .side b && not (pile n h (c .name) b))) stray, eq-eqb (c .weighs) _ (law .true-weight), lt-leb k (c .weighs) (law .light))
+
+  -- the rows, tried in turn
+  pub entry-ten : (i : ℕ) → stands n h (c .name) ≡ false → Refused 10 i ≡ first (entryRows n w k h i c)
+  unfolding entryRows refuse first
+  entry-ten i e = rw e
+
+  pub entry-eleven : (i : ℕ) → stands n h (c .name) ≡ true → astray n h (c .name) (c .side) ≡ true → Refused 11 i ≡ first (entryRows n w k h i c)
+  unfolding entryRows refuse first
+  entry-eleven i e f = rw (e, f)
+
+  pub entry-twelve : (i : ℕ) → stands n h (c .name) ≡ true → astray n h (c .name) (c .side) ≡ false → (c .weighs ≡ weight n w (pile n h (c .name)) (c .side) → ⊥) → Refused 12 i ≡ first (entryRows n w k h i c)
+  unfolding entryRows refuse first
+  entry-twelve i e f g = rw (e, f, ne-eqb (c .weighs) (weight n w (pile n h (c .name)) (c .side)) g)
+
+  pub entry-thirteen : (i : ℕ) → stands n h (c .name) ≡ true → astray n h (c .name) (c .side) ≡ false → c .weighs ≡ weight n w (pile n h (c .name)) (c .side) → k ≤ c .weighs → Refused 13 i ≡ first (entryRows n w k h i c)
+  unfolding entryRows refuse first
+  entry-thirteen i e f g l = rw (e, f, eq-eqb (c .weighs) (weight n w (pile n h (c .name)) (c .side)) g, le-leb k (c .weighs) l)
+
+  pub entry-sound : (i : ℕ) → stands n h (c .name) ≡ true → astray n h (c .name) (c .side) ≡ false → c .weighs ≡ weight n w (pile n h (c .name)) (c .side) → c .weighs < k → Accepted ≡ first (entryRows n w k h i c)
+  unfolding entryRows refuse first
+  entry-sound i e f g l = rw (e, f, eq-eqb (c .weighs) (weight n w (pile n h (c .name)) (c .side)) g, lt-leb k (c .weighs) l)
 
   -- a refusal's place is the entry's own
   pub entry-place : (i number place : ℕ) → first (entryRows n w k h i c) ≡ Refused number place → place ≡ i

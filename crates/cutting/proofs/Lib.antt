@@ -2,6 +2,6 @@
 pub mod Entries
 pub mod Cuts
 pub mod Alike
-pub mod Judging
 pub mod Lawful
 pub mod Names
+pub mod Parting

@@ -7,7 +7,7 @@ use lib.ListN.{length}
 use Rattle.meaning.specs.declared.Link.{Link}
 use Rattle.meaning.specs.declared.Judged.{Judged}
 use Rattle.meaning.specs.Judge.{refuse}
-use Rattle.meaning.specs.Count.{some}
+use Rattle.meaning.specs.Count.{Bones, some}
 use Rattle.meaning.specs.Tally.{Tally, pairTally, weight}
 use Rattle.meaning.specs.Heap.{Heap, start, pile, stands, Cut, parted}
 use Rattle.weighing.specs.Links.{tableRows}
@@ -24,11 +24,16 @@ spaceRow n room = refuse (ltb room (entrySize * (n - 1))) 8 0
 unfoldable pub recordRow : ℕ → List ℕ → Judged
 recordRow n bytes = refuse (not (eqb (length bytes % entrySize) 0) || ltb (n - 1) (length bytes / entrySize)) 9 0
 
--- 10 to 13 at the entry in place i, in the heap that those before it leave; a side has 128 bits
+-- 11: the side is empty, holds the pile's least bone, or holds a bone outside the pile; a side has 128 bits
+unfoldable pub astray : ℕ → Heap → ℕ → Bones → Bool
+astray n h name side =
+    not (some 128 side) || (side name || some 128 (λ b. side b && not (pile n h name b)))
+
+-- 10 to 13 at the entry in place i, in the heap that those before it leave
 unfoldable pub entryRows : ℕ → Tally → ℕ → Heap → ℕ → Cut → List Judged
 entryRows n w k h i c =
     refuse (not (stands n h (c .name))) 10 i
-    ∷ refuse (not (some 128 (c .side)) || (c .side (c .name) || some 128 (λ b. c .side b && not (pile n h (c .name) b)))) 11 i
+    ∷ refuse (astray n h (c .name) (c .side)) 11 i
     ∷ refuse (not (eqb (c .weighs) (weight n w (pile n h (c .name)) (c .side)))) 12 i
     ∷ refuse (leb k (c .weighs)) 13 i
     ∷ []

@@ -1,5 +1,6 @@
 // Cutting: the record of cuts, checking, grouping and thinning, and the calls from C.
 mod heap;
+mod judging;
 pub mod record;
 
 // What grouping and checking answer: a refusal of the table with its place, or the number of groups (of piles) and whether the run of cuts
