@@ -3,6 +3,7 @@
 use Prim.Native.Nat.{ℕ, zero, suc, _+_, _*_, _-_, _/_, _≤_, _<_}
 use mathlib.Core.Path.{_≡_, refl, sym, _∙_, ap, ap₂}
 use mathlib.Core.List.{List, [], _∷_, _++_}
+use native.Mathlib.Nat.{sub-zero}
 use native.Mathlib.Numerals.{add-one}
 use native.Mathlib.Omega.{arith}
 use lib.ListN.{length, getD, take, drop, List·getD-append, length-drop, length-take, take-append-drop}
@@ -16,6 +17,11 @@ pub length-cuts : (m : ℕ) (bytes : List ℕ) → length (cutsIn m bytes) ≡ m
 unfolding cutsIn
 length-cuts zero bytes = refl
 length-cuts (suc m) bytes = ap suc (length-cuts m (drop entrySize bytes))
+
+-- the cuts from place 0 on are all
+pub cuts-start : (bytes : List ℕ) → cutsOf bytes ≡ cutsIn (length bytes / entrySize - 0) (drop (0 * entrySize) bytes)
+unfolding cutsOf
+cuts-start bytes = ap (λ (m : ℕ). cutsIn m bytes) (sym (sub-zero (length bytes / entrySize)))
 
 -- the cuts from place i on are the one in that place and those after it; past the last whole entry there are none
 pub cuts-next : (bytes : List ℕ) (i : ℕ) {e : Entry} → i < length bytes / entrySize → e ≡ entryAt bytes i

@@ -1,28 +1,29 @@
 -- Rows 10 to 13 and lawful cuts: the rows accept an entry exactly if its cut is lawful, they accept a record exactly if it is a lawful run,
 -- and a refusal's place is the first entry that is not lawful.
 -- Assumes nothing.
-use Prim.Native.Nat.{ℕ, zero, suc, _+_, _/_, _%_, _^_, _≤_, _<_, min}
+use Prim.Native.Nat.{ℕ, zero, suc, _+_, _-_, _/_, _%_, _^_, _≤_, _<_, min}
 use mathlib.Core.Path.{_≡_, refl, sym, _∙_, ap, subst}
 use mathlib.Core.Logic.{⊎-elim}
 use mathlib.Core.Bool.{Bool, true, false, not, _&&_, _||_}
 use mathlib.Core.List.{List, [], _∷_, _++_}
 use native.Mathlib.Nat.{zero-div}
+use native.Mathlib.Numerals.{add-one}
 use native.Mathlib.Omega.{arith}
 use lib.Dec.{T, eqb, ltb, T-not, not-T, ltb→lt, nltb→le}
 use lib.ListN.{length, getD, take, drop, List·getD-eq-default, length-take}
-use borrow.Author.Tests.{eq-eqb, ne-eqb, le-leb, lt-leb, leb-false, eqb-true, not-false}
+use borrow.Author.Tests.{lt-ltb, le-ltb, eq-eqb, ne-eqb, le-leb, lt-leb, leb-false, eqb-true, not-false}
 use Rattle.meaning.specs.declared.Judged.{Judged}
 use Rattle.meaning.specs.declared.Judged.the-variants.{Accepted, Refused}
 use Rattle.meaning.specs.Judge.{refuse, first}
 use Rattle.meaning.specs.Count.{Bones, some}
 use Rattle.meaning.specs.Tally.{Tally, weight}
-use Rattle.meaning.specs.Heap.{Heap, Cut, Lawful, LawfulRun, parted, pile, stands, left}
+use Rattle.meaning.specs.Heap.{Heap, start, Cut, Lawful, LawfulRun, parted, pile, stands, left}
 use Rattle.meaning.proofs.Tests.{both, left-of, right-of, decide, holds, fails, is-true, is-false, same-test, taut, so, _⊃_}
 use Rattle.meaning.proofs.Sets.{some-intro, some-elim}
 use Rattle.meaning.proofs.Heaps.{pile-bone}
 use Rattle.weighing.specs.Side.{sideOf}
-use Rattle.cutting.specs.Record.{entrySize, entryOf, cutOf, cutsIn}
-use Rattle.cutting.specs.Rows.{astray, entryRows, entriesRows}
+use Rattle.cutting.specs.Record.{entrySize, entryOf, cutOf, cutsIn, cutsOf}
+use Rattle.cutting.specs.Rows.{astray, entryRows, entriesRows, recordRow, recordRows}
 use Rattle.weighing.proofs.LinksRows.{never-both, first-accepted, first-refused, accepted-left, accepted-right}
 
 -- ---- sides of 128 bits
@@ -221,3 +222,42 @@ module _ (n : ℕ) (w : Tally) (k : ℕ) where
             row = subst (λ (x : ℕ). first (entryRows n w k h x c) ≡ Refused number place) (sym here) (a ∙ same);
             here = omega (arith, here);
           }
+
+-- ---- replaying a record: past an entry that is accepted, at one that is refused, and behind the last
+
+module _ (n : ℕ) (w : Tally) (k : ℕ) (h : Heap) (c : Cut) (cs : List Cut) {rest : List Cut} (r : rest ≡ c ∷ cs) where
+  pub entries-next : (h′ : Heap) (i : ℕ) → h′ ≡ parted n h c → first (entryRows n w k h i c) ≡ Accepted → first (entriesRows n w k h i rest) ≡ first (entriesRows n w k h′ (i + 1) cs)
+  unfolding entriesRows
+  entries-next h′ i p e = rw (r, add-one i, p) (first-accepted (entryRows n w k h i c) (entriesRows n w k (parted n h c) (suc i) cs) e)
+
+  pub entries-halt : (i number place : ℕ) → first (entryRows n w k h i c) ≡ Refused number place → first (entriesRows n w k h i rest) ≡ Refused number place
+  unfolding entriesRows
+  entries-halt i number place e =
+      rw r (first-refused (entryRows n w k h i c) (entriesRows n w k (parted n h c) (suc i) cs) number place e)
+
+  pub left-next : (h′ : Heap) → h′ ≡ parted n h c → left n h rest ≡ left n h′ cs
+  unfolding left
+  left-next h′ p = rw (r, p)
+
+pub entries-none : (n : ℕ) (w : Tally) (k : ℕ) (h : Heap) (i : ℕ) {rest : List Cut} → rest ≡ [] → first (entriesRows n w k h i rest) ≡ Accepted
+unfolding entriesRows first
+entries-none n w k h i r = rw r
+
+pub left-none : (n : ℕ) (h : Heap) {rest : List Cut} → rest ≡ [] → left n h rest ≡ h
+unfolding left
+left-none n h r = rw r
+
+-- ---- row 9
+
+module _ (n : ℕ) (w : Tally) (k : ℕ) (bytes : List ℕ) where
+  pub record-broken : (length bytes % entrySize ≡ 0 → ⊥) → Refused 9 0 ≡ first (recordRows n w k bytes)
+  unfolding recordRows recordRow refuse first
+  record-broken f = rw (ne-eqb (length bytes % entrySize) 0 f)
+
+  pub record-long : length bytes % entrySize ≡ 0 → n - 1 < length bytes / entrySize → Refused 9 0 ≡ first (recordRows n w k bytes)
+  unfolding recordRows recordRow refuse first
+  record-long e l = rw (eq-eqb (length bytes % entrySize) 0 e, lt-ltb (n - 1) (length bytes / entrySize) l)
+
+  pub record-fits : length bytes % entrySize ≡ 0 → length bytes / entrySize ≤ n - 1 → first (recordRows n w k bytes) ≡ first (entriesRows n w k start 0 (cutsOf bytes))
+  unfolding recordRows recordRow refuse first
+  record-fits e l = rw (eq-eqb (length bytes % entrySize) 0 e, le-ltb (n - 1) (length bytes / entrySize) l)

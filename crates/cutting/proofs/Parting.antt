@@ -8,10 +8,10 @@ use mathlib.Core.List.{List}
 use native.Mathlib.Nat.{le-refl, not-suc-le-zero, eq-or-lt-of-le}
 use native.Mathlib.Omega.{arith}
 use lib.Dec.{T, ltb, ltb→lt, nltb→le, T-not, not-T}
-use lib.ListN.{length, getD, set, length-set}
+use lib.ListN.{length, getD, set, replicate, length-set}
 use lib.Seq.{getD-set-same, getD-set-other}
 use Rattle.meaning.specs.Count.{Bones, some, least}
-use Rattle.meaning.specs.Heap.{Heap, Cut, parted}
+use Rattle.meaning.specs.Heap.{Heap, start, Cut, parted}
 use Rattle.meaning.proofs.Tests.{decide, is-true, is-false}
 use Rattle.meaning.proofs.Sets.{some-intro, some-elim, least-is}
 use Rattle.weighing.specs.Side.{heapOf}
@@ -71,3 +71,13 @@ renamed-end n c name old new r e narrow =
     (λ t. r .rest x (nltb→le x 128 t)
     ∙ sym (ap (λ (b : Bool). cond b (least n (c .side)) (getD old x 0)) (is-false (c .side x) (not-T (c .side x) (λ s. absurd (omega (arith, narrow x s, nltb→le x 128 t)))))))
     (decide (ltb x 128)))
+
+-- names that are all nought are one pile of all bones
+pub heap-start : (m : ℕ) → heapOf (replicate m 0) ≡ start
+unfolding heapOf start
+heap-start m = fun-ext (nought m)
+  where
+    nought : (m b : ℕ) → _≡_ {A = ℕ} (getD (replicate m 0) b 0) 0
+    nought zero b = refl
+    nought (suc m) zero = refl
+    nought (suc m) (suc b) = nought m b

@@ -13,11 +13,12 @@ ghost use Prim.Native.Nat.{_+_, _-_, _*_, _/_, _≤_, _<_};
 ghost use lib.ListN.{length};
 ghost use Rattle.meaning.specs.Count.{some};
 ghost use Rattle.meaning.specs.Judge.{first};
-ghost use Rattle.meaning.specs.Heap.{stands as standing, pile};
+ghost use Rattle.meaning.specs.Heap.{start, stands as standing, pile, left};
 ghost use Rattle.weighing.specs.Side.{heapOf, sideOf};
 ghost use Rattle.weighing.specs.Table.{held};
-ghost use Rattle.cutting.specs.Record.{cutOf};
-ghost use Rattle.cutting.specs.Rows.{astray as straying, entryRows};
+ghost use Rattle.cutting.specs.Record.{entrySize, cutOf, cutsOf};
+ghost use Rattle.cutting.specs.Replay.{Replayed};
+ghost use Rattle.cutting.specs.Rows.{astray as straying, entryRows, entriesRows, recordRows};
 
 // Whether the pile of that name stands.
 fn stands(names: &[u8; 128], n: usize, name: u8) -> bool
@@ -129,4 +130,49 @@ fn judge_entry(
         };
     }
     Judged::Accepted
+}
+
+// Rows 10 to 13 on each entry of a record in turn, in the heap that those before it leave; the names end as the whole record leaves them.
+fn replay(table: &[u32; 16384], n: usize, k: u64, entries: &[u8], names: &mut [u8; 128]) -> Judged
+    requires { ⌜ (n ≤ 128) × (length (now names) ≡ 128) × (length (now entries) / entrySize ≤ 128) ⌝ }
+    ensures { λ r. ⌜ Replayed (entriesRows n (held (now (table .entry))) k (heapOf (now (names .entry))) 0 (cutsOf (now (entries .entry)))) (left n (heapOf (now (names .entry))) (cutsOf (now (entries .entry)))) (now (names .exit)) r ⌝ }
+{
+    let count = Record::within(entries.len()).cuts;
+    let mut i = 0;
+    while i < count {
+        let entry = read(entries, i);
+        match judge_entry(table, names, n, k, entry, i as u32) {
+            Judged::Accepted => {}
+            Judged::Refused { number, place } => return Judged::Refused { number, place },
+        }
+        part(names, n, entry);
+        i += 1;
+    }
+    Judged::Accepted
+}
+
+// Rows 9 to 13 on a record; the names, those of one pile of all bones, end as the record leaves them.
+pub(crate) fn judge_record(
+    table: &[u32; 16384],
+    n: usize,
+    k: u64,
+    entries: &[u8],
+    names: &mut [u8; 128],
+) -> Judged
+    requires { ⌜ (0 < n) × (n ≤ 128) × (length (now names) ≡ 128) × (heapOf (now names) ≡ start) ⌝ }
+    ensures { λ r. ⌜ Replayed (recordRows n (held (now (table .entry))) k (now (entries .entry))) (left n start (cutsOf (now (entries .entry)))) (now (names .exit)) r ⌝ }
+{
+    if entries.len() % Record::ENTRY != 0 {
+        return Judged::Refused {
+            number: 9,
+            place: 0,
+        };
+    }
+    if n - 1 < Record::within(entries.len()).cuts {
+        return Judged::Refused {
+            number: 9,
+            place: 0,
+        };
+    }
+    replay(table, n, k, entries, names)
 }
