@@ -5,3 +5,4 @@ pub mod Alike
 pub mod Lawful
 pub mod Names
 pub mod Parting
+pub mod Finish
