@@ -6,3 +6,4 @@ pub mod Lawful
 pub mod Names
 pub mod Parting
 pub mod Finish
+pub mod Carried
