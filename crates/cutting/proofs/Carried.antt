@@ -127,11 +127,14 @@ module _ (rows : List Judged) (n : ℕ) (w : Tally) (k : ℕ) (bytes labels : Li
 -- ---- accepted
 
 module _ (rows : List Judged) (n : ℕ) (w : Tally) (k : ℕ) (bytes labels labels′ : List ℕ) (e : first rows ≡ Accepted) where
-  pub checked-accepted : (h : Heap) (count : ℕ) (done : Bool) → h ≡ left n start (cutsOf bytes) → count ≡ piles n h → done ≡ finished n w k h → labels′ ≡ written n h labels → Checked rows n w k bytes labels labels′ (Gave count done)
+  pub checked-accepted : (h : Heap) (r : Answer) → h ≡ left n start (cutsOf bytes) → r ≡ Gave (piles n h) (finished n w k h) → labels′ ≡ written n h labels → Checked rows n w k bytes labels labels′ r
   unfolding answered settled
-  checked-accepted h count done p q t l =
+  checked-accepted h r p q l =
       record {
-        answer = ap₂ Gave (q ∙ ap (piles n) p) (t ∙ ap (finished n w k) p)
+        answer = q
+            ∙ ap (λ (x : Heap). Gave (piles n x) (finished n w k x)) p
             ∙ ap (λ (j : Judged). answered j (piles n (left n start (cutsOf bytes))) (finished n w k (left n start (cutsOf bytes)))) (sym e);
-        names-left = l ∙ ap (λ (x : Heap). written n x labels) p ∙ ap (λ (j : Judged). settled j labels (written n (left n start (cutsOf bytes)) labels)) (sym e);
+        names-left = l
+            ∙ ap (λ (x : Heap). written n x labels) p
+            ∙ ap (λ (j : Judged). settled j labels (written n (left n start (cutsOf bytes)) labels)) (sym e);
       }

@@ -1,7 +1,7 @@
 -- Laws of cutting to the end: when a search shows that a run is finished, which piles stay firm after a cut, and that the cuts never
 -- outgrow the record space.
 -- Assumes nothing.
-use Prim.Native.Nat.{ℕ, suc, _+_, _-_, _≤_, _<_, zero-le}
+use Prim.Native.Nat.{ℕ, suc, _+_, _-_, _≤_, _<_, zero-le, min}
 use mathlib.Core.Path.{_≡_, refl, sym, _∙_, ap, subst}
 use mathlib.Core.Logic.{⊎-elim}
 use mathlib.Core.Bool.{Bool, true, false, not, _&&_, _||_}
@@ -19,7 +19,8 @@ use Rattle.meaning.proofs.Sets.{Same, some-elim, every-intro, every-elim, least
 use Rattle.meaning.proofs.Firm.{firm-elim, firm-same, splits-intro}
 use Rattle.meaning.proofs.Heaps.{Named, pile-intro, pile-bone, pile-name, parted-moved, parted-stays, named-start, piles-parted}
 use Rattle.meaning.proofs.Runs.{Reached, reached-start, reached-left, piles-left, piles-start, piles-groups, finished-labels}
-use Rattle.weighing.specs.Search.{FirmPiles}
+use Rattle.weighing.specs.declared.search.Split.{Split}
+use Rattle.weighing.specs.Search.{FirmPiles, Searched, cutOf}
 
 module _ (n : ℕ) (w : Tally) (k : ℕ) (h : Heap) where
   -- every pile is firm
@@ -110,3 +111,15 @@ module _ (n : ℕ) (w : Tally) (k : ℕ) (some-bones : 0 < n) (cs : List Cut) (r
 
   pub run-cuts : T (finished n w k (left n start cs)) → groups n w k - 1 ≡ length cs
   run-cuts t = omega (arith, run-groups t, piles-run)
+
+-- what a search from 0 on says of the run
+pub searched-finished : (n : ℕ) (w : Tally) (k : ℕ) (h : Heap) (r : Split) (light : Bool) → n ≤ 128 → Searched (min n 128) w k h 0 r light → not light ≡ finished n w k h
+unfolding Searched
+searched-finished n w k h r light few s = go light (subst (λ (m : ℕ). Searched m w k h 0 r light) all s)
+  where
+    all : min n 128 ≡ n
+    all = omega arith
+
+    go : (light : Bool) → Searched n w k h 0 r light → not light ≡ finished n w k h
+    go true s = sym (is-false (finished n w k h) (lawful-unfinished n w k h (cutOf r) (s .0)))
+    go false s = sym (is-true (finished n w k h) (firm-finished n w k h (s .0)))

@@ -1,4 +1,5 @@
 // Cutting: the record of cuts, checking, grouping and thinning, and the calls from C.
+mod checking;
 mod heap;
 mod judging;
 pub mod record;
