@@ -5,7 +5,7 @@ use mathlib.Core.Path.{_≡_, refl, sym, _∙_, ap, ap₂, subst}
 use mathlib.Core.Bool.{Bool, true}
 use mathlib.Core.List.{List, [], _∷_, _++_}
 use lib.Dec.{T}
-use lib.ListN.{length, take, drop}
+use lib.ListN.{length, take, drop, replicate}
 use borrow.Author.Tests.{lt-ltb, le-ltb}
 use Rattle.meaning.specs.declared.Link.{Link}
 use Rattle.meaning.specs.declared.Judged.{Judged}
@@ -15,7 +15,10 @@ use Rattle.meaning.specs.Tally.{Tally, pairTally}
 use Rattle.meaning.specs.Firm.{label, groups}
 use Rattle.meaning.specs.Heap.{Heap, start, LawfulRun, left, piles, finished}
 use Rattle.weighing.specs.Links.{tableRows}
-use Rattle.weighing.proofs.LinksRows.{first-accepted, first-refused}
+use Rattle.weighing.specs.Table.{held, filled}
+use Rattle.weighing.proofs.LinksBytes.{Short}
+use Rattle.weighing.proofs.LinksRows.{Counted, table-counted, first-accepted, first-refused}
+use Rattle.weighing.proofs.TableHeld.{table-holds}
 use Rattle.cutting.specs.declared.Answer.{Answer}
 use Rattle.cutting.specs.declared.Answer.the-variants.{Gave, Refused as Refused·answer}
 use Rattle.cutting.specs.Record.{entrySize, cutsOf}
@@ -57,6 +60,18 @@ module _ (n : ℕ) (v w : Tally) (alike : Alike n v w) (k : ℕ) where
         labels-left = c .labels-left ∙ ap₂ (λ (j : Judged) (h : Heap). settled j labels (written n h labels)) e (label-alike n v w alike k);
         record-left = subst (λ (j : Judged). Recorded j n w k bytes space space′) e (recorded-alike (first rows) bytes space space′ (c .record-left));
       }
+
+-- ---- a table that was filled from nought
+
+module _ (n k : ℕ) (good : Bool) (links : List Link) (r : Judged) (judged : r ≡ first (tableRows n k good links)) (accepted : r ≡ Accepted) where
+  pub filled-counted : Counted n k good (length links)
+  filled-counted = table-counted n k good links (sym judged ∙ accepted)
+
+  pub filled-alike : (t : List ℕ) → t ≡ filled r (replicate 16384 0) links → Short links → Alike n (held t) (pairTally links)
+  unfolding filled
+  filled-alike t e short i j hi hj =
+      ap (λ (x : List ℕ). held x i j) (e ∙ ap (λ (x : Judged). filled x (replicate 16384 0) links) accepted)
+      ∙ table-holds n k good links (sym judged ∙ accepted) short i j hi hj
 
 -- ---- the rows of a call: those of the links, and then those of a core
 

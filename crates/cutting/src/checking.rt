@@ -4,16 +4,18 @@ use crate::heap::count_piles;
 use crate::heap::write_names;
 use crate::judging::judge_record;
 use meaning::Judged;
+use weighing::fill;
 use weighing::search::search;
 ghost use mathlib.Core.Path.{_≡_};
 ghost use mathlib.Core.List.{_∷_};
 ghost use Prim.Native.Nat.{_≤_, _<_};
 ghost use lib.ListN.{length};
 ghost use Rattle.meaning.specs.Heap.{piles, finished as finishedRun};
+ghost use Rattle.weighing.specs.Links.{whole, linksOf};
 ghost use Rattle.weighing.specs.Side.{heapOf};
 ghost use Rattle.weighing.specs.Table.{held};
 ghost use Rattle.cutting.specs.Rows.{labelRow, recordRows};
-ghost use Rattle.cutting.specs.Calls.{written, Checked};
+ghost use Rattle.cutting.specs.Calls.{written, Checked, Checking};
 
 // The names are written; their piles are counted; and they are searched, which tells whether the run that left them is finished.
 fn tell_piles(
@@ -56,6 +58,18 @@ pub(crate) fn check_table(
     let mut names = [0u8; 128];
     match judge_record(table, n, k, entries, &mut names) {
         Judged::Accepted => tell_piles(table, n, k, &names, labels),
+        Judged::Refused { number, place } => Answer::Refused { number, place },
+    }
+}
+
+// Checks a record: gives the number of piles that it leaves and whether it is finished, and writes each bone's pile name to the label
+// space; or the first refusal, which leaves the label space as it was. Links are lent as bytes, four a link.
+pub fn checking(n: u64, k: u64, links: &[u8], record: &[u8], labels: &mut [u8]) -> Answer
+    ensures { λ r. ⌜ Checking n k (whole (now (links .entry))) (linksOf (now (links .entry))) (now («record» .entry)) (now (labels .entry)) (now (labels .exit)) r ⌝ }
+{
+    let mut table = [0u32; 16384];
+    match fill(n, k, links, &mut table) {
+        Judged::Accepted => check_table(&table, n as usize, k, record, labels),
         Judged::Refused { number, place } => Answer::Refused { number, place },
     }
 }
