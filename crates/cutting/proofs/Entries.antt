@@ -88,7 +88,7 @@ bytes-entry (p ∷ a ∷ b ∷ c ∷ d ∷ rest) h f =
     let v : w % 256 ≡ d = omega (arith, f 1, f 2, f 3, f 4) in
     λ i. p ∷ x i ∷ y i ∷ z i ∷ v i ∷ take 16 rest
 
-length-bytes : (e : Entry) → length (e .side) ≡ 16 → length (entryBytes e) ≡ 21
+pub length-bytes : (e : Entry) → length (e .side) ≡ 16 → length (entryBytes e) ≡ 21
 unfolding entryBytes
 length-bytes e long = omega arith
 

@@ -6,4 +6,5 @@ pub mod Lawful
 pub mod Names
 pub mod Parting
 pub mod Finish
+pub mod Going
 pub mod Carried

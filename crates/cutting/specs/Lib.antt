@@ -2,4 +2,5 @@
 pub mod Record
 pub mod Rows
 pub mod Replay
+pub mod Finish
 pub mod Calls

@@ -1,5 +1,6 @@
 // Cutting: the record of cuts, checking, grouping and thinning, and the calls from C.
 mod checking;
+mod grouping;
 mod heap;
 mod judging;
 pub mod record;
