@@ -153,3 +153,12 @@ module _ (rows : List Judged) (n : ℕ) (w : Tally) (k : ℕ) (bytes labels labe
             ∙ ap (λ (x : Heap). written n x labels) p
             ∙ ap (λ (j : Judged). settled j labels (written n (left n start (cutsOf bytes)) labels)) (sym e);
       }
+
+  pub grouped-accepted : (space space′ : List ℕ) (r : Answer) → r ≡ Gave (groups n w k) true → labels′ ≡ written n (label n w k) labels → Continued n w k bytes space space′ → Grouped rows n w k bytes labels labels′ space space′ r
+  unfolding answered settled Recorded
+  grouped-accepted space space′ r q l c =
+      record {
+        answer = q ∙ ap (λ (j : Judged). answered j (groups n w k) true) (sym e);
+        labels-left = l ∙ ap (λ (j : Judged). settled j labels (written n (label n w k) labels)) (sym e);
+        record-left = subst (λ (j : Judged). Recorded j n w k bytes space space′) (sym e) c;
+      }

@@ -8,3 +8,4 @@ pub mod Parting
 pub mod Finish
 pub mod Going
 pub mod Carried
+pub mod Continuing
