@@ -1,4 +1,4 @@
--- `cutting::grouping::complete` meets its contract. Assumes nothing.
+-- `cutting::group::complete` meets its contract. Assumes nothing.
 use Prim.Native.Nat.{ℕ, _/_}
 use mathlib.Core.Path.{sym, _∙_, ap, subst}
 use mathlib.Core.Bool.{true}
@@ -12,8 +12,8 @@ use Rattle.cutting.specs.Record.{entrySize}
 use Rattle.cutting.specs.Finish.{Begun, Ended}
 use Rattle.cutting.proofs.Continuing.{record-sound, given-begins, ended-continued, ended-labels, ended-groups}
 use borrow.Author.Needs.{needs}
-use Rattle.cutting.proofs.grouping.complete.Statement.{statement}
-use Rattle.cutting.proofs.grouping.complete.Tie as tie
+use Rattle.cutting.proofs.group.complete.Statement.{statement}
+use Rattle.cutting.proofs.group.complete.Tie as tie
 
 copy-requires : tie.Need-copy-requires
 copy-requires c κs =

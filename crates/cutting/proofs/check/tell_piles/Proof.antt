@@ -1,12 +1,12 @@
--- `cutting::checking::tell_piles` meets its contract. Assumes nothing.
+-- `cutting::check::tell_piles` meets its contract. Assumes nothing.
 use mathlib.Core.Path.{ap₂}
 use Rattle.weighing.specs.Side.{heapOf}
 use Rattle.weighing.specs.Table.{held}
 use Rattle.cutting.specs.declared.Answer.the-variants.{Gave}
 use Rattle.cutting.proofs.Finish.{searched-finished}
 use borrow.Author.Needs.{needs}
-use Rattle.cutting.proofs.checking.tell_piles.Statement.{statement}
-use Rattle.cutting.proofs.checking.tell_piles.Tie as tie
+use Rattle.cutting.proofs.check.tell_piles.Statement.{statement}
+use Rattle.cutting.proofs.check.tell_piles.Tie as tie
 
 search-requires : tie.Need-search-requires
 search-requires c κs = search needs

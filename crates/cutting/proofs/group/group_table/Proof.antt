@@ -1,10 +1,10 @@
--- `cutting::grouping::group_table` meets its contract. Assumes nothing.
+-- `cutting::group::group_table` meets its contract. Assumes nothing.
 use mathlib.Core.Path.{refl, sym, _∙_}
 use Rattle.cutting.proofs.Parting.{heap-start}
 use Rattle.cutting.proofs.Carried.{label-short, label-fits, space-short, space-fits, grouped-refused, grouped-accepted}
 use borrow.Author.Needs.{needs}
-use Rattle.cutting.proofs.grouping.group_table.Statement.{statement}
-use Rattle.cutting.proofs.grouping.group_table.Tie as tie
+use Rattle.cutting.proofs.group.group_table.Statement.{statement}
+use Rattle.cutting.proofs.group.group_table.Tie as tie
 
 returns : tie.Need-returns
 returns c = grouped-refused _ _ _ _ _ _ 7 0 (label-short _ _ _ (c .if1 .taken)) _

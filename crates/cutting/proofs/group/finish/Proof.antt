@@ -1,4 +1,4 @@
--- `cutting::grouping::finish` meets its contract. The invariant: the cuts so far are a lawful run that leaves the names, and the piles below
+-- `cutting::group::finish` meets its contract. The invariant: the cuts so far are a lawful run that leaves the names, and the piles below
 -- `from` are firm. Each cut leaves less room for cuts. Assumes nothing.
 use Prim.Native.Nat.{ℕ, _+_, _-_, _<_}
 use mathlib.Core.Path.{sym, subst}
@@ -10,8 +10,8 @@ use Rattle.weighing.specs.Side.{heapOf}
 use Rattle.weighing.specs.Table.{held}
 use Rattle.weighing.specs.Search.{cutOf as splitCut}
 use Rattle.cutting.proofs.Going.{Found, searched-light, searched-none, Going, going-start, going-room, going-next, going-end}
-use Rattle.cutting.proofs.grouping.finish.Statement.{statement}
-use Rattle.cutting.proofs.grouping.finish.Tie as tie
+use Rattle.cutting.proofs.group.finish.Statement.{statement}
+use Rattle.cutting.proofs.group.finish.Tie as tie
 
 abbrev Inv-loop : tie.InvT-loop
 Inv-loop table n k names₀ space₀ cuts₀ from₀ names space cuts from = Going n (held table) k space₀ cuts₀ names space cuts from

@@ -1,11 +1,11 @@
--- `cutting::grouping::entry_of` meets its contract. Assumes nothing.
+-- `cutting::group::entry_of` meets its contract. Assumes nothing.
 use mathlib.Core.Path.{refl, sym, _∙_}
 use lib.ListN.{length-map}
 use Rattle.weighing.specs.Search.{cutOf as splitCut}
 use Rattle.cutting.specs.Record.{cutOf}
 use borrow.Author.Needs.{needs}
-use Rattle.cutting.proofs.grouping.entry_of.Statement.{statement}
-use Rattle.cutting.proofs.grouping.entry_of.Tie as tie
+use Rattle.cutting.proofs.group.entry_of.Statement.{statement}
+use Rattle.cutting.proofs.group.entry_of.Tie as tie
 
 cast-t3 : tie.Need-cast-t3
 cast-t3 c = search needs

@@ -1,10 +1,10 @@
--- `cutting::checking::check_table` meets its contract. Assumes nothing.
+-- `cutting::check::check_table` meets its contract. Assumes nothing.
 use mathlib.Core.Path.{refl, sym, _∙_}
 use Rattle.cutting.proofs.Parting.{heap-start}
 use Rattle.cutting.proofs.Carried.{label-short, label-fits, checked-refused, checked-accepted}
 use borrow.Author.Needs.{needs}
-use Rattle.cutting.proofs.checking.check_table.Statement.{statement}
-use Rattle.cutting.proofs.checking.check_table.Tie as tie
+use Rattle.cutting.proofs.check.check_table.Statement.{statement}
+use Rattle.cutting.proofs.check.check_table.Tie as tie
 
 returns : tie.Need-returns
 returns c = checked-refused _ _ _ _ _ _ 7 0 (label-short _ _ _ (c .if1 .taken))

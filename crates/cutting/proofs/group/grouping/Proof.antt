@@ -1,12 +1,12 @@
--- `cutting::grouping::grouping` meets its contract. Assumes nothing.
+-- `cutting::group::grouping` meets its contract. Assumes nothing.
 use mathlib.Core.Path.{sym, _∙_}
 use native.Mathlib.Omega.{arith}
 use lib.ListN.{length}
 use Rattle.weighing.proofs.LinksBytes.{linksOf-short}
 use Rattle.cutting.proofs.Carried.{filled-counted, filled-alike, grouping-core, grouping-stop, grouped-alike, grouped-refused}
 use borrow.Author.Needs.{needs}
-use Rattle.cutting.proofs.grouping.grouping.Statement.{statement}
-use Rattle.cutting.proofs.grouping.grouping.Tie as tie
+use Rattle.cutting.proofs.group.grouping.Statement.{statement}
+use Rattle.cutting.proofs.group.grouping.Tie as tie
 
 fill-requires : tie.Need-fill-requires
 fill-requires c κs = search needs

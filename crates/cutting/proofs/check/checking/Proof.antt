@@ -1,12 +1,12 @@
--- `cutting::checking::checking` meets its contract. Assumes nothing.
+-- `cutting::check::checking` meets its contract. Assumes nothing.
 use mathlib.Core.Path.{sym, _∙_}
 use native.Mathlib.Omega.{arith}
 use lib.ListN.{length}
 use Rattle.weighing.proofs.LinksBytes.{linksOf-short}
 use Rattle.cutting.proofs.Carried.{filled-counted, filled-alike, checking-core, checking-stop, checked-alike, checked-refused}
 use borrow.Author.Needs.{needs}
-use Rattle.cutting.proofs.checking.checking.Statement.{statement}
-use Rattle.cutting.proofs.checking.checking.Tie as tie
+use Rattle.cutting.proofs.check.checking.Statement.{statement}
+use Rattle.cutting.proofs.check.checking.Tie as tie
 
 fill-requires : tie.Need-fill-requires
 fill-requires c κs = search needs
