@@ -1,4 +1,6 @@
 -- What cutting's promises cite.
 pub mod Record
 pub mod Rows
+pub mod Replay
+pub mod Finish
 pub mod Calls
