@@ -1,20 +1,20 @@
 -- Runs of sums that grow: by one store, by nothing, in steps; and the tally between two sets bone by bone.
 -- Assumes nothing.
-use Prim.Native.Nat.{ℕ, zero, suc, _+_, _*_, _≤_, _<_, zero-le}
+use Prim.Native.Nat.{ℕ, _+_, _*_, _≤_, _<_, zero-le}
 use mathlib.Core.Path.{_≡_, refl, sym, _∙_, ap, subst}
 use mathlib.Core.Bool.{Bool, true, false, cond, not, _&&_}
 use mathlib.Core.Logic.{⊎-elim}
 use mathlib.Core.List.{List}
-use native.Mathlib.Nat.{le-refl, add-zero, add-mul, one-mul}
+use native.Mathlib.Nat.{add-zero, add-mul, one-mul}
 use native.Mathlib.Numerals.{add-one}
 use native.Mathlib.Omega.{arith}
-use lib.Dec.{T, eqb, eqb→eq, T-not}
+use lib.Dec.{T, eqb, T-not}
 use lib.ListN.{length, getD, set, length-set}
 use lib.Seq.{getD-set-same, getD-set-other}
 use Rattle.meaning.specs.Count.{Bones, sum}
 use Rattle.meaning.specs.Tally.{Tally, total}
 use Rattle.meaning.proofs.Sums.{sum-ext, sum-zero}
-use Rattle.meaning.proofs.Tests.{decide, is-true, is-false, neqb→ne, ne→neqb}
+use Rattle.meaning.proofs.Tests.{decide, is-true, is-false, ne→neqb}
 use Rattle.weighing.specs.Scan.{Room, Grown, cross, reaches, butFor}
 
 cond-most : (b : Bool) (v most : ℕ) → v ≤ most → cond b v 0 ≤ most

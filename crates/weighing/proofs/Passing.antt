@@ -1,8 +1,8 @@
 -- A pass from its start to each of its ends, as the arrays hold it.
 -- Assumes nothing.
-use Prim.Native.Nat.{ℕ, _+_, _≤_, _<_}
-use mathlib.Core.Path.{_≡_, refl, sym, _∙_, ap, subst}
-use mathlib.Core.Logic.{_⊎_, inl, inr, ⊎-elim}
+use Prim.Native.Nat.{ℕ, _≤_, _<_}
+use mathlib.Core.Path.{_≡_, refl, sym, _∙_, subst}
+use mathlib.Core.Logic.{inl, inr, ⊎-elim}
 use mathlib.Core.Bool.{Bool, true, false, cond, not, _&&_}
 use mathlib.Core.List.{List}
 use native.Mathlib.Omega.{arith}
@@ -15,7 +15,7 @@ use Rattle.meaning.specs.Heap.{Heap}
 use Rattle.meaning.proofs.Tests.{decide, taut, so, _⊃_}
 use Rattle.meaning.proofs.Totals.{Symmetric}
 use Rattle.weighing.specs.Side.{heapOf}
-use Rattle.weighing.specs.Scan.{inBlock, cross, marked, blocks, Room, Grown, Filled, Picked, BlockNames, Kept, Passed, butFor}
+use Rattle.weighing.specs.Scan.{inBlock, cross, marked, Room, Grown, Filled, Picked, BlockNames, Passed, butFor}
 use Rattle.weighing.proofs.Adjacency.{light-joins}
 use Rattle.weighing.proofs.Merging.{Gone, Choice, names-after, kept-after, fewer-after}
 use Rattle.weighing.proofs.Filling.{cond-yes, cond-no}

@@ -1,27 +1,27 @@
 -- The state of a pass as its arrays hold it: marks of the free blocks, attachments, and the names that the blocks taken will bear.
 -- Assumes nothing.
-use Prim.Native.Nat.{ℕ, zero, suc, _+_, _*_, _≤_, _<_, zero-le}
+use Prim.Native.Nat.{ℕ, zero, suc, _+_, _*_, _≤_, _<_}
 use mathlib.Core.Path.{_≡_, refl, sym, _∙_, ap, subst}
-use mathlib.Core.Logic.{_⊎_, inl, inr, ⊎-elim}
+use mathlib.Core.Logic.{⊎-elim}
 use mathlib.Core.Bool.{Bool, true, false, cond, not, _&&_, Bool·beq}
 use mathlib.Core.List.{List}
-use native.Mathlib.Nat.{le-refl, le-trans, le-of-eq}
+use native.Mathlib.Nat.{le-trans, le-of-eq}
 use native.Mathlib.Omega.{arith}
-use lib.Dec.{T, eqb, leb, ltb, eqb→eq, ltb→lt, nltb→le, le→leb, leb→le, T-not, not-T}
+use lib.Dec.{T, eqb, ltb, eqb→eq, ltb→lt, nltb→le, T-not}
 use lib.ListN.{length, getD, set, replicate, length-set, length-replicate}
 use lib.Seq.{getD-set-same, getD-set-other}
-use Rattle.meaning.specs.Count.{Bones, sum, count, some}
+use Rattle.meaning.specs.Count.{Bones, count}
 use Rattle.meaning.specs.Tally.{Tally, weight}
 use Rattle.meaning.specs.Heap.{Heap}
-use Rattle.meaning.proofs.Tests.{decide, same-test, taut, so, _⊃_, _⇒_, both, left-of, right-of, is-true, is-false, eq→eqb, neqb→ne, ne→neqb, holds, fails}
+use Rattle.meaning.proofs.Tests.{decide, taut, so, _⊃_, both, left-of, right-of, eq→eqb, neqb→ne}
 use Rattle.meaning.proofs.Totals.{Symmetric}
 use Rattle.meaning.proofs.Sums.{sum-ext, count-most}
 use Rattle.meaning.proofs.Sets.{some-intro}
 use Rattle.weighing.specs.Side.{heapOf}
-use Rattle.weighing.specs.Scan.{inBlock, taken, untaken, cross, marked, blocks, Room, Grown, Filled, Picked, BlockNames, Kept, LightSide, Passed, butFor}
+use Rattle.weighing.specs.Scan.{inBlock, taken, untaken, cross, marked, Grown, Filled, Picked, BlockNames, LightSide, butFor}
 use Rattle.weighing.proofs.Attach.{butFor-other}
-use Rattle.weighing.proofs.Adjacency.{same-beq, Closed, Bounded, Greatest, cross-taken, cross-none, bounded-taken, bounded-none, light-joins, out-weight, untaken-weight, last-weight}
-use Rattle.weighing.proofs.Merging.{Gone, Merged, Choice, merged-none, merged-taken, gone-u, gone-still, count-fewer}
+use Rattle.weighing.proofs.Adjacency.{same-beq, Closed, Bounded, Greatest, cross-taken, cross-none, bounded-taken, bounded-none, out-weight, untaken-weight, last-weight}
+use Rattle.weighing.proofs.Merging.{Gone, Merged, Choice, merged-none, merged-taken, gone-u, count-fewer}
 
 pub record State (n : ℕ) (w : Tally) (k : ℕ) (S : Bones) (name : Heap) (free attach next : List ℕ) (last : ℕ) : Type 0 where
   pub free-long : length free ≡ 128

@@ -1,16 +1,14 @@
 -- `weighing::pass::pass` meets its contract. The loop's invariant is `Pass`, what holds whenever the next block has been picked.
 -- Assumes nothing.
-use Prim.Native.Nat.{ℕ, _+_, _≤_, _<_}
-use mathlib.Core.Path.{_≡_, refl, sym, _∙_, ap, subst, subst₂}
-use mathlib.Core.Bool.{Bool, true, false, cond, not}
+use Prim.Native.Nat.{ℕ, _<_}
+use mathlib.Core.Path.{_≡_, sym, _∙_, ap, subst, subst₂}
+use mathlib.Core.Bool.{true, false, cond}
 use mathlib.Core.List.{List}
 use native.Mathlib.Omega.{arith}
-use borrow.Author.Needs.{needs}
-use lib.Dec.{T, leb}
-use lib.ListN.{length, getD, set, replicate}
+use lib.Dec.{leb}
+use lib.ListN.{getD, set, replicate}
 use Rattle.meaning.specs.Count.{Bones, count}
-use Rattle.meaning.specs.Tally.{Tally}
-use Rattle.meaning.specs.Heap.{Heap, pile, stands}
+use Rattle.meaning.specs.Heap.{pile, stands}
 use Rattle.meaning.proofs.Heaps.{pile-bone}
 use Rattle.weighing.specs.Table.{held}
 use Rattle.weighing.specs.Side.{heapOf}
@@ -20,14 +18,6 @@ use Rattle.weighing.proofs.Scanning.{State}
 use Rattle.weighing.proofs.Passing.{Given, Pass, name-small, state-room, state-most, start-room, start-state, pass-start, passed-alone, passed-light, next-state, next-count, pass-next, passed-joined}
 use Rattle.weighing.proofs.pass.pass.Statement.{statement}
 use Rattle.weighing.proofs.pass.pass.Tie as tie
-use Rattle.weighing.proofs.pass.pass.Reads as reads
-use Rattle.weighing.proofs.pass.pass.Lts as lts
-use Rattle.weighing.proofs.scan.bone.Reads as bone-reads
-use Rattle.weighing.proofs.scan.free_all.Reads as free-all-reads
-use Rattle.weighing.proofs.scan.join.Reads as join-reads
-use Rattle.weighing.proofs.scan.pick.Reads as pick-reads
-use Rattle.weighing.proofs.scan.rename.Reads as rename-reads
-use Rattle.weighing.proofs.scan.take.Reads as take-reads
 
 abbrev Inv-loop : tie.InvT-loop
 Inv-loop table names n k p block free₀ attach₀ next₀ first last₀ u₀ out₀ free attach next last u out =

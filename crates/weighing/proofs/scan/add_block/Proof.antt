@@ -1,6 +1,6 @@
 -- `weighing::scan::add_block` meets its contract: after b turns each sum has grown by the tallies with the block's bones below b.
 -- Assumes nothing.
-use Prim.Native.Nat.{ℕ, zero-le, _+_, _*_, _-_, _≤_, _<_}
+use Prim.Native.Nat.{zero-le, _*_, _-_, _≤_}
 use mathlib.Core.Path.{_∙_}
 use mathlib.Core.Bool.{cond}
 use native.Mathlib.Omega.{arith}
@@ -14,9 +14,6 @@ use Rattle.weighing.proofs.Attach.{grown-start, grown-next, grown-end, 
 use native.Mathlib.Nat.{le-refl}
 use Rattle.weighing.proofs.scan.add_block.Statement.{statement}
 use Rattle.weighing.proofs.scan.add_block.Tie as tie
-use Rattle.weighing.proofs.scan.add_block.Reads as reads
-use Rattle.weighing.proofs.scan.add_block.Lts as lts
-use Rattle.weighing.proofs.scan.add_member.Reads as add-member-reads
 
 abbrev Inv-loop : tie.InvT-loop
 Inv-loop table names block n p u attach₀ b₀ attach b =
@@ -25,29 +22,23 @@ Inv-loop table names block n p u attach₀ b₀ attach b =
 abbrev μ-loop : tie.MeasureT-loop
 μ-loop table names block n p u attach₀ b₀ attach b = n - b
 
--- src/scan.rt:116:5
 loop-holds : tie.Need-loop-holds Inv-loop μ-loop
 loop-holds c = (zero-le, grown-start _ _ 549755813888 (c .pre .1 .1 .long))
 
--- src/scan.rt:117:9
 add-member-requires : tie.Need-add-member-requires Inv-loop μ-loop
 add-member-requires c κs =
     let s = c .before .before .before in
     ((s .pre .0, c .before .loop-test .taken), (s .pre .1 .0, room-left 70368744177664 549755813888 (s .pre .1 .1) (c .before .before .loop .inv .1) (omega arith)))
 
--- src/scan.rt:116:9
 add-b : tie.Need-add-b Inv-loop μ-loop
 add-b c = omega arith
 
--- src/scan.rt:116:5
 loop-less : tie.Need-loop-less Inv-loop μ-loop
 loop-less c = omega arith
 
--- src/scan.rt:116:5
 loop-again : tie.Need-loop-again Inv-loop μ-loop
 loop-again c = (omega arith, grown-next _ _ _ _ _ _ (c .before .before .before .loop .inv .1) (c .add-member .ensures))
 
--- src/scan.rt:102:1
 returns : tie.Need-returns Inv-loop μ-loop
 returns c =
     let a = c .before .before .args in

@@ -1,7 +1,7 @@
 -- `weighing::scan::add_pair` meets its contract: one sum grows where c is in the pile and in another block than u, and none where it is not.
 -- Assumes nothing.
 use Prim.Native.Nat.{ℕ, _<_, _+_}
-use mathlib.Core.Path.{_≡_, sym, _∙_, ap, subst}
+use mathlib.Core.Path.{_≡_, sym, _∙_, subst}
 use mathlib.Core.Bool.{Bool, cond, not, _&&_}
 use mathlib.Core.List.{List}
 use native.Mathlib.Nat.{le-refl}

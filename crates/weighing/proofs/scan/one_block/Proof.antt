@@ -2,7 +2,7 @@
 -- Assumes nothing.
 use Prim.Native.Nat.{ℕ, zero-le, _-_, _≤_, _<_}
 use mathlib.Core.Path.{_≡_, sym, _∙_, subst}
-use mathlib.Core.Bool.{Bool, true, false, not, _&&_}
+use mathlib.Core.Bool.{not, _&&_}
 use native.Mathlib.Nat.{not-suc-le-zero}
 use native.Mathlib.Omega.{arith}
 use borrow.Author.Count.{below-more}
@@ -13,9 +13,6 @@ use Rattle.meaning.proofs.Heaps.{pile-bone}
 use Rattle.weighing.specs.Side.{heapOf}
 use Rattle.weighing.proofs.scan.one_block.Statement.{statement}
 use Rattle.weighing.proofs.scan.one_block.Tie as tie
-use Rattle.weighing.proofs.scan.one_block.Reads as reads
-use Rattle.weighing.proofs.scan.one_block.Lts as lts
-use Rattle.weighing.proofs.scan.strays.Reads as strays-reads
 
 abbrev Inv-loop : tie.InvT-loop
 Inv-loop names block n p first b₀ b = (b ≤ n) × ((y : ℕ) → y < b → T (pile n (heapOf names) p y) → heapOf block y ≡ first)
@@ -23,31 +20,24 @@ Inv-loop names block n p first b₀ b = (b ≤ n) × ((y : ℕ) → y < b → T 
 abbrev μ-loop : tie.MeasureT-loop
 μ-loop names block n p first b₀ b = n - b
 
--- src/scan.rt:260:17
 element-copy-out-first : tie.Need-element-copy-out-first Inv-loop μ-loop
 element-copy-out-first c = omega arith
 
--- src/scan.rt:261:5
 loop-holds : tie.Need-loop-holds Inv-loop μ-loop
 loop-holds c = (zero-le, λ y h. absurd (not-suc-le-zero h))
 
--- src/scan.rt:262:12
 strays-requires : tie.Need-strays-requires Inv-loop μ-loop
 strays-requires c κs = omega arith
 
--- src/scan.rt:263:13
 returns : tie.Need-returns Inv-loop μ-loop
 returns c = λ e. absurd (subst T (sym e) tt)
 
--- src/scan.rt:261:9
 add-b : tie.Need-add-b Inv-loop μ-loop
 add-b c = omega arith
 
--- src/scan.rt:261:5
 loop-less : tie.Need-loop-less Inv-loop μ-loop
 loop-less c = omega arith
 
--- src/scan.rt:261:5
 loop-again : tie.Need-loop-again Inv-loop μ-loop
 loop-again c =
     let l = c .before .before .before .loop in
@@ -57,7 +47,6 @@ loop-again c =
           (λ t. eqb→eq _ _ (taut 2 (λ s e. not (s && not e) ⊃ s ⊃ so e) tt (pile (a .n) (heapOf (a .names .now)) (a .p) (l .b)) (eqb (heapOf (a .block .now) (l .b)) _) (fails (sym (c .before .strays .ensures) ∙ c .if1 .left)) t)),
     )
 
--- src/scan.rt:256:1
 returns-2 : tie.Need-returns-2 Inv-loop μ-loop
 unfolding heapOf
 returns-2 c = λ e b t.

@@ -10,23 +10,16 @@ use Rattle.meaning.proofs.Heaps.{pile-intro, pile-name}
 use Rattle.weighing.specs.Side.{heapOf}
 use Rattle.weighing.proofs.scan.strays.Statement.{statement}
 use Rattle.weighing.proofs.scan.strays.Tie as tie
-use Rattle.weighing.proofs.scan.strays.Reads as reads
-use Rattle.weighing.proofs.scan.strays.Lts as lts
-use Rattle.weighing.proofs.scan.bone.Reads as bone-reads
 
--- src/scan.rt:247:13
 element-copy-out-bone : tie.Need-element-copy-out-bone
 element-copy-out-bone c = search needs
 
--- src/scan.rt:247:8
 bone-requires : tie.Need-bone-requires
 bone-requires c κs = search needs
 
--- src/scan.rt:248:12
 element-copy-out-if2 : tie.Need-element-copy-out-if2
 element-copy-out-if2 c = search needs
 
--- src/scan.rt:249:13
 returns : tie.Need-returns
 unfolding heapOf
 returns c =
@@ -38,7 +31,6 @@ returns c =
     (pile-intro (a .n) (heapOf (a .names .now)) (a .p) (a .b) (s .pre .1) (sym (c .before .before .before .bone .ensures .0) ∙ c .before .before .if1 .taken))
     (ne→neqb _ _ (c .if2 .taken))))
 
--- src/scan.rt:243:1
 returns-2 : tie.Need-returns-2
 unfolding heapOf
 returns-2 c =
@@ -47,7 +39,6 @@ returns-2 c =
     let e = not (eqb (heapOf (a .block .now) (a .b)) (a .first)) in
     sym (is-false (t && e) (not-T (t && e) (λ h. neqb→ne _ _ (right-of t e h) (c .if2 .left))))
 
--- src/scan.rt:243:1
 returns-3 : tie.Need-returns-3
 unfolding heapOf
 returns-3 c =

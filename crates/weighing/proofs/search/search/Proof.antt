@@ -1,18 +1,16 @@
 -- `weighing::search::search` meets its contract. Over the piles: those passed are firm, and nothing is found yet. Over the passes: the
 -- blocks keep a light split of the pile, and grow fewer.
 -- Assumes nothing.
-use Prim.Native.Nat.{ℕ, _+_, _-_, _≤_, _<_, min}
-use mathlib.Core.Path.{_≡_, refl, sym, _∙_, ap, subst}
+use Prim.Native.Nat.{ℕ, _-_, _≤_, _<_}
+use mathlib.Core.Path.{_≡_, refl, sym, _∙_, subst}
 use mathlib.Core.Logic.{⊎-elim}
-use mathlib.Core.Bool.{Bool, true, false, not}
+use mathlib.Core.Bool.{true, not}
 use mathlib.Core.List.{List}
 use native.Mathlib.Nat.{le-refl}
 use native.Mathlib.Omega.{arith}
 use lib.Dec.{T, eqb}
-use lib.ListN.{length, getD, replicate}
-use Rattle.meaning.specs.Count.{Bones}
-use Rattle.meaning.specs.Firm.{firm}
-use Rattle.meaning.specs.Heap.{Heap, pile, stands}
+use lib.ListN.{length, replicate}
+use Rattle.meaning.specs.Heap.{pile, stands}
 use Rattle.meaning.proofs.Heaps.{pile-intro, pile-bone, pile-name}
 use Rattle.weighing.specs.declared.search.Split.{Split}
 use Rattle.weighing.specs.Table.{held}
@@ -24,13 +22,6 @@ use Rattle.weighing.proofs.Scanning.{zeros}
 use Rattle.weighing.proofs.Searching.{lawful-side, firm-none, firm-more, firm-all, single-names, single-kept}
 use Rattle.weighing.proofs.search.search.Statement.{statement}
 use Rattle.weighing.proofs.search.search.Tie as tie
-use Rattle.weighing.proofs.search.search.Reads as reads
-use Rattle.weighing.proofs.search.search.Lts as lts
-use Rattle.weighing.proofs.pass.pass.Reads as pass-reads
-use Rattle.weighing.proofs.scan.bone.Reads as bone-reads
-use Rattle.weighing.proofs.scan.single.Reads as single-reads
-use Rattle.weighing.proofs.search.at_most.Reads as at-most-reads
-use Rattle.weighing.proofs.moved.side_of.Reads as side-of-reads
 
 abbrev Inv-loop : tie.InvT-loop
 Inv-loop table names n k from bones block₀ free₀ found₀ p block free found =
@@ -57,11 +48,9 @@ Inv-piles table names n k from bones block₀ free₀ found₀ p₀ block free f
 abbrev μ-piles : tie.MeasureT-piles
 μ-piles table names n k from bones block₀ free₀ found₀ p₀ block free found p = bones - p
 
--- src/search.rt:32:9
 at-most-requires : tie.Need-at-most-requires Inv-loop μ-loop Inv-piles μ-piles
 at-most-requires c κs = tt
 
--- src/search.rt:42:5
 -- at first nothing is marked
 unmarked : (x : ℕ) → T (not (marked (replicate 128 0) x))
 unfolding marked
@@ -72,19 +61,15 @@ unfolding marked
 piles-holds c =
     (refl, refl, λ x h. unmarked x, refl, le-refl _, firm-none _ _ _ _ _)
 
--- src/search.rt:43:17
 element-copy-out-bone : tie.Need-element-copy-out-bone Inv-loop μ-loop Inv-piles μ-piles
 element-copy-out-bone c = omega (arith, c .before .before .at-most .ensures)
 
--- src/search.rt:43:12
 bone-requires : tie.Need-bone-requires Inv-loop μ-loop Inv-piles μ-piles
 bone-requires c κs = tt
 
--- src/search.rt:44:13
 single-requires : tie.Need-single-requires Inv-loop μ-loop Inv-piles μ-piles
 single-requires c κs = c .before .before .before .before .before .piles .inv .0
 
--- src/search.rt:45:13
 -- the bones of the pile are below 128, and the pile stands
 in-128 : (c : tie.Then1 Inv-loop μ-loop Inv-piles μ-piles) → (b : ℕ) → T (pile (c .before .before .before .before .before .at-most .result) (heapOf (c .before .before .before .before .before .before .args .names .now)) (c .before .before .before .before .piles .p) b) → b < 128
 in-128 c b t = omega (arith, pile-bone (c .before .before .before .before .before .at-most .result) (heapOf (c .before .before .before .before .before .before .args .names .now)) (c .before .before .before .before .piles .p) b t, c .before .before .before .before .before .at-most .ensures)
@@ -106,43 +91,35 @@ loop-holds c =
       single-kept _ _ _ _ _ (c .single .last .0) (in-128 (c .before .before)) (c .single .ensures),
     )
 
--- src/search.rt:46:21
 pass-requires : tie.Need-pass-requires Inv-loop μ-loop Inv-piles μ-piles
 pass-requires c κs =
     let i = c .before .before .loop .inv in
     ((omega (arith, c .before .before .before .before .before .before .before .before .before .before .at-most .ensures), i .0, i .1), (i .2, (standing (c .before .before .before .before .before), i .4)))
 
--- src/search.rt:50:25
 side-of-requires : tie.Need-side-of-requires Inv-loop μ-loop Inv-piles μ-piles
 side-of-requires c κs = (
   omega (arith, c .before .before .before .before .before .before .before .before .before .before .before .before .before .before .at-most .ensures),
   λ b t. pile-bone (c .before .before .before .before .before .before .before .before .before .before .before .before .before .before .at-most .result) (heapOf (c .before .before .before .before .before .before .before .before .before .before .before .before .before .before .before .args .names .now)) (c .before .before .before .before .before .before .before .before .before .before .before .before .before .piles .p) _ (c .before .before .before .pass .ensures .names .inside b t),
 )
 
--- src/search.rt:53:31
 cast-t28 : tie.Need-cast-t28 Inv-loop μ-loop Inv-piles μ-piles
 cast-t28 c = omega (arith, c .before .before .before .before .before .before .before .before .before .before .before .before .before .piles-test .taken, c .before .before .before .before .before .before .before .before .before .before .before .before .before .before .before .at-most .ensures)
 
--- src/search.rt:45:13
 loop-less : tie.Need-loop-less Inv-loop μ-loop Inv-piles μ-piles
 loop-less c = c .before .before .pass .ensures .fewer (c .before .if2 .left) (c .if3 .left)
 
--- src/search.rt:45:13
 loop-again : tie.Need-loop-again Inv-loop μ-loop Inv-piles μ-piles
 loop-again c =
     let r = c .before .before .pass .ensures in
     let i = c .before .before .before .before .before .loop .inv in
     (r .long, r .free-long, r .free-rest, i .3, r .names, r .kept (i .5))
 
--- src/search.rt:64:9
 add-p : tie.Need-add-p Inv-loop μ-loop Inv-piles μ-piles
 add-p c = omega (arith, c .before .before .before .piles-test .taken, c .before .before .before .before .before .at-most .ensures)
 
--- src/search.rt:42:5
 piles-less : tie.Need-piles-less Inv-loop μ-loop Inv-piles μ-piles
 piles-less c = omega (arith, c .before .before .before .piles-test .taken)
 
--- src/search.rt:42:5
 -- a pile that stands bears its own name
 named-so : (c : tie.Joined1 Inv-loop μ-loop Inv-piles μ-piles) → T (stands (c .before .before .before .before .before .at-most .result) (heapOf (c .before .before .before .before .before .before .args .names .now)) (c .before .before .before .before .piles .p)) → c .before .bone .result ≡ c .before .before .before .before .piles .p
 unfolding stands heapOf
@@ -171,7 +148,6 @@ piles-again c =
     ))
     (c .if1 .came)
 
--- src/search.rt:29:1
 returns : tie.Need-returns Inv-loop μ-loop Inv-piles μ-piles
 unfolding Searched
 returns c =
@@ -181,7 +157,6 @@ returns c =
     (subst (λ (r : Split). Searched (c .before .before .at-most .result) (held (a .table .now)) (a .k) (heapOf (a .names .now)) (a .from) r (r .light)) (sym (i .3))
     (firm-all _ _ _ _ _ _ (c .piles-test .left) (i .5), refl, refl, refl))
 
--- src/search.rt:29:1
 returns-2 : tie.Need-returns-2 Inv-loop μ-loop Inv-piles μ-piles
 unfolding Searched cutOf
 returns-2 c =
