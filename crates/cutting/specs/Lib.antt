@@ -4,3 +4,4 @@ pub mod Rows
 pub mod Replay
 pub mod Finish
 pub mod Calls
+pub mod Told

@@ -1,4 +1,5 @@
 // Cutting: the record of cuts, checking, grouping and thinning, and the calls from C.
+pub mod calls;
 mod check;
 mod group;
 mod heap;
