@@ -9,3 +9,4 @@ pub mod Finish
 pub mod Going
 pub mod Carried
 pub mod Continuing
+pub mod Thinning

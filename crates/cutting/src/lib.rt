@@ -5,6 +5,7 @@ mod group;
 mod heap;
 mod judging;
 pub mod record;
+mod thin;
 
 pub use check::checking;
 pub use group::grouping;
