@@ -10,3 +10,4 @@ pub mod Going
 pub mod Carried
 pub mod Continuing
 pub mod Demands
+pub mod Thinning

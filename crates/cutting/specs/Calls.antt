@@ -84,6 +84,10 @@ unfoldable pub keeping : Judged → ℕ → Thinned
 keeping Accepted count = Kept count
 keeping (Refused number place) count = Refused·thinned number place
 
-pub record Thinning (n k : ℕ) (good : Bool) (links : List Link) (space space′ : List ℕ) (r : Thinned) : Type 0 where
-  pub answer : r ≡ keeping (first (thinningRows n k good links (length space / 4))) (length (kept (label n (pairTally links) k) links))
-  pub links-left : space′ ≡ settled (first (thinningRows n k good links (length space / 4))) space (over (linkBytes (kept (label n (pairTally links) k) links)) space)
+pub record Thins (rows : List Judged) (n : ℕ) (w : Tally) (k : ℕ) (links : List Link) (space space′ : List ℕ) (r : Thinned) : Type 0 where
+  pub answer : r ≡ keeping (first rows) (length (kept (label n w k) links))
+  pub links-left : space′ ≡ settled (first rows) space (over (linkBytes (kept (label n w k) links)) space)
+
+abbrev pub Thinning : ℕ → ℕ → Bool → List Link → List ℕ → List ℕ → Thinned → Type 0
+Thinning n k good links space space′ r =
+    Thins (thinningRows n k good links (length space / 4)) n (pairTally links) k links space space′ r

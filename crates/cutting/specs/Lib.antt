@@ -4,3 +4,5 @@ pub mod Rows
 pub mod Replay
 pub mod Finish
 pub mod Calls
+pub mod Thin
+pub mod Told

@@ -46,6 +46,10 @@ entriesRows n w k h i (c ∷ cs) = entryRows n w k h i c ++ entriesRows n w k (p
 unfoldable pub recordRows : ℕ → Tally → ℕ → List ℕ → List Judged
 recordRows n w k bytes = recordRow n (length bytes) ∷ entriesRows n w k start 0 (cutsOf bytes)
 
+-- 14: link space shorter than the links given, both counted in whole links
+unfoldable pub linkRow : ℕ → ℕ → Judged
+linkRow links room = refuse (ltb room links) 14 0
+
 -- what each call tries, in order; `good` says that the run of links is whole
 unfoldable pub checkingRows : ℕ → ℕ → Bool → List Link → List ℕ → ℕ → List Judged
 checkingRows n k good links bytes labelRoom =
@@ -61,4 +65,4 @@ groupingRows n k good links bytes labelRoom recordRoom =
     ∷ recordRows n (pairTally links) k bytes
 
 unfoldable pub thinningRows : ℕ → ℕ → Bool → List Link → ℕ → List Judged
-thinningRows n k good links linkRoom = tableRows n k good links ++ refuse (ltb linkRoom (length links)) 14 0 ∷ []
+thinningRows n k good links linkRoom = tableRows n k good links ++ linkRow (length links) linkRoom ∷ []

@@ -1,9 +1,11 @@
 // Cutting: the record of cuts, checking, grouping and thinning, and the calls from C.
+pub mod calls;
 mod check;
 mod group;
 mod heap;
 mod judging;
 pub mod record;
+mod thin;
 
 pub use check::checking;
 pub use group::grouping;
