@@ -1,3 +1,4 @@
 -- The laws about frames and lines.
 pub mod Frames
 pub mod Lines
+pub mod Walks

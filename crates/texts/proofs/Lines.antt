@@ -5,18 +5,18 @@ use mathlib.Core.Path.{_≡_, refl, sym, _∙_, ap, ap₂, subst}
 use mathlib.Core.Logic.{_⊎_, inl, inr, ⊎-elim}
 use mathlib.Core.Bool.{Bool, true, false, cond, not, _&&_, _||_}
 use mathlib.Core.List.{List, [], _∷_, _++_}
-use native.Mathlib.Nat.{le-of-lt}
+use native.Mathlib.Nat.{le-of-lt, add-assoc}
 use native.Mathlib.Numerals.{add-one}
 use native.Mathlib.Omega.{arith}
 use borrow.Author.Tests.{eq-eqb, ne-eqb}
-use lib.Dec.{T, eqb, ltb, eqb→eq}
+use lib.Dec.{T, eqb, ltb, ltb→lt, eqb→eq}
 use lib.ListN.{length, getD, take, drop, length-append, length-take}
-use lib.Seq.{split-at, length-take-le, getD-take, take-append-seam, getD-append-seam}
+use lib.Seq.{split-at, length-take-le, getD-take, getD-drop, take-append-seam, getD-append-seam}
 use Rattle.meaning.proofs.Tests.{both, left-of, right-of, decide, is-true, is-false, neqb→ne}
 use Rattle.texts.specs.Frame.{payloads, isKind, byteSum, valueOf, isHex, bytesOf, wellFormed}
 use Rattle.texts.specs.Lines.{Line, before, linesOf, frame, kind, pair}
-use Rattle.texts.specs.Walk.{byteAt, digitsAt, sizeAt, Well}
-use Rattle.texts.proofs.Frames.{hex-first, hex-more, length-bytesOf, well-parts, well-made}
+use Rattle.texts.specs.Walk.{pairOf, byteAt, digitsAt, sizeAt, Well}
+use Rattle.texts.proofs.Frames.{chosen, hex-first, hex-more, length-bytesOf, well-parts, well-made}
 
 -- characters among which there is no line feed
 abbrev pub Plain : List ℕ → Type 0
@@ -139,6 +139,33 @@ pub byteAt-take : (n : ℕ) (cs : List ℕ) (i : ℕ) → 2 * i + 2 ≤ n → by
 unfolding byteAt
 byteAt-take n cs i h =
     ap₂ (λ (x y : ℕ). valueOf x * 16 + valueOf y) (getD-take n cs (2 * i) 0 (omega arith)) (getD-take n cs (2 * i + 1) 0 (omega arith))
+
+-- a pair read at a place: the byte there if it is below 256, and else no digits
+here : (text : List ℕ) (at i : ℕ) → pairOf (getD text (at + 2 * i) 0) (getD text (at + 2 * i + 1) 0) ≡ pairOf (getD (drop at text) (2 * i) 0) (getD (drop at text) (2 * i + 1) 0)
+here text at i =
+    ap₂ pairOf (sym (getD-drop at text (2 * i) 0))
+    (ap (λ (n : ℕ). getD text n 0) (add-assoc at (2 * i) 1) ∙ sym (getD-drop at text (2 * i + 1) 0))
+
+pub pair-digits-at : (text : List ℕ) (at i : ℕ) → pairOf (getD text (at + 2 * i) 0) (getD text (at + 2 * i + 1) 0) < 256 → T (digitsAt (drop at text) i)
+unfolding digitsAt pairOf
+pair-digits-at text at i h =
+    let x = valueOf (getD (drop at text) (2 * i) 0) in
+    let y = valueOf (getD (drop at text) (2 * i + 1) 0) in
+    ⊎-elim (λ w. w .0) (λ w. absurd (omega (arith, here text at i))) (chosen (ltb x 16 && ltb y 16) (x * 16 + y) 256)
+
+pub pair-byte-at : (text : List ℕ) (at i : ℕ) → T (digitsAt (drop at text) i) → pairOf (getD text (at + 2 * i) 0) (getD text (at + 2 * i + 1) 0) ≡ byteAt (drop at text) i
+unfolding digitsAt byteAt pairOf
+pair-byte-at text at i t =
+    let x = valueOf (getD (drop at text) (2 * i) 0) in
+    let y = valueOf (getD (drop at text) (2 * i + 1) 0) in
+    here text at i ∙ ap (λ (b : Bool). cond b (x * 16 + y) 256) (is-true (ltb x 16 && ltb y 16) t)
+
+pub byteAt-bound : (cs : List ℕ) (i : ℕ) → T (digitsAt cs i) → byteAt cs i < 256
+unfolding digitsAt byteAt
+byteAt-bound cs i t =
+    let x = valueOf (getD cs (2 * i) 0) in
+    let y = valueOf (getD cs (2 * i + 1) 0) in
+    omega (arith, ltb→lt x 16 (left-of (ltb x 16) (ltb y 16) t), ltb→lt y 16 (right-of (ltb x 16) (ltb y 16) t))
 
 -- the frame at the front of a text: its line and the lines after it, and its bytes
 abbrev pub front : List ℕ → Line
