@@ -1,4 +1,5 @@
 -- The laws about frames and lines.
 pub mod Frames
 pub mod Lines
+pub mod Stages
 pub mod Walks

@@ -8,7 +8,7 @@ ghost use Rattle.texts.specs.Frame.{payloads, valueOf};
 ghost use Rattle.texts.specs.Walk.{pairOf, Found, SizeFound, Summed};
 
 // The frame at a place of a text: how many bytes it has, its kind and the sum of its bytes. No well formed line there: the size is nought.
-pub struct Frame {
+pub(crate) struct Frame {
     pub size: usize,
     pub kind: usize,
     pub sum: usize,
@@ -18,14 +18,14 @@ pub struct Frame {
 const PAYLOADS: [usize; 8] = [0, 3, 4, 21, 2, 16, 2, 3];
 
 // The length of a kind's payload, nought where there is no such kind.
-pub fn payload(kind: usize) -> usize
+pub(crate) fn payload(kind: usize) -> usize
     ensures { λ r. ⌜ r ≡ getD payloads kind 0 ⌝ }
 {
     if kind < 8 { PAYLOADS[kind] } else { 0 }
 }
 
 // The digit that a character is, 16 where it is none.
-pub fn value(c: u8) -> u8
+pub(crate) fn value(c: u8) -> u8
     ensures { λ r. ⌜ r ≡ valueOf c ⌝ }
 {
     if c < 48 {
@@ -44,7 +44,7 @@ pub fn value(c: u8) -> u8
 }
 
 // The byte that two characters mean, 256 where they are not both digits.
-pub fn pair(high: u8, low: u8) -> usize
+pub(crate) fn pair(high: u8, low: u8) -> usize
     ensures { λ r. ⌜ r ≡ pairOf high low ⌝ }
 {
     let h = value(high);
@@ -110,7 +110,7 @@ fn sum_at(text: &[u8], at: usize, size: usize) -> usize
 }
 
 // The frame at a place of a text.
-pub fn frame_at(text: &[u8], at: usize) -> Frame
+pub(crate) fn frame_at(text: &[u8], at: usize) -> Frame
     ensures { λ r. ⌜ Found (drop at (now (text .entry))) r ⌝ }
 {
     let size = size_at(text, at);
