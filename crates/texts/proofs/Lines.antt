@@ -160,6 +160,19 @@ pair-byte-at text at i t =
     let y = valueOf (getD (drop at text) (2 * i + 1) 0) in
     here text at i ∙ ap (λ (b : Bool). cond b (x * 16 + y) 256) (is-true (ltb x 16 && ltb y 16) t)
 
+-- the two values of a pair of digits, and the byte that they make
+pub values-at : (text : List ℕ) (at i : ℕ) → T (digitsAt (drop at text) i)
+    → (valueOf (getD text (at + 2 * i) 0) < 16) × (valueOf (getD text (at + 2 * i + 1) 0) < 16) × (valueOf (getD text (at + 2 * i) 0) * 16 + valueOf (getD text (at + 2 * i + 1) 0) ≡ byteAt (drop at text) i)
+unfolding digitsAt byteAt
+values-at text at i t =
+    let x = valueOf (getD (drop at text) (2 * i) 0) in
+    let y = valueOf (getD (drop at text) (2 * i + 1) 0) in
+    let p : x ≡ valueOf (getD text (at + 2 * i) 0) = ap valueOf (getD-drop at text (2 * i) 0) in
+    let q : y ≡ valueOf (getD text (at + 2 * i + 1) 0) = ap valueOf (getD-drop at text (2 * i + 1) 0 ∙ ap (λ (n : ℕ). getD text n 0) (sym (add-assoc at (2 * i) 1))) in
+    let a = ltb→lt x 16 (left-of (ltb x 16) (ltb y 16) t) in
+    let b = ltb→lt y 16 (right-of (ltb x 16) (ltb y 16) t) in
+    (omega arith, omega arith, omega arith)
+
 pub byteAt-bound : (cs : List ℕ) (i : ℕ) → T (digitsAt cs i) → byteAt cs i < 256
 unfolding digitsAt byteAt
 byteAt-bound cs i t =

@@ -2,10 +2,10 @@
 ghost use mathlib.Core.Path.{_≡_};
 ghost use mathlib.Core.Bool.{cond, _&&_};
 ghost use Prim.Native.Nat.{_+_, _*_, _≤_};
-ghost use lib.Dec.{ltb};
+ghost use lib.Dec.{T, ltb};
 ghost use lib.ListN.{getD, length, drop};
 ghost use Rattle.texts.specs.Frame.{payloads, valueOf};
-ghost use Rattle.texts.specs.Walk.{pairOf, Found, SizeFound, Summed};
+ghost use Rattle.texts.specs.Walk.{pairOf, byteAt, digitsAt, Found, SizeFound, Summed};
 
 // The frame at a place of a text: how many bytes it has, its kind and the sum of its bytes. No well formed line there: the size is nought.
 pub(crate) struct Frame {
@@ -135,4 +135,30 @@ pub(crate) fn frame_at(text: &[u8], at: usize) -> Frame
         kind: kind,
         sum: sum,
     }
+}
+
+// The byte that the i-th pair at a place means.
+pub(crate) fn byte_at(text: &[u8], at: usize, i: usize) -> u8
+    requires { ⌜ (at + 2 * i + 2 ≤ length (now text)) × T (digitsAt (drop at (now text)) i) ⌝ }
+    ensures { λ r. ⌜ r ≡ byteAt (drop at (now (text .entry))) i ⌝ }
+{
+    let high = value(text[at + 2 * i]);
+    let low = value(text[at + 2 * i + 1]);
+    high * 16 + low
+}
+
+// The number that two bytes give, high byte first.
+pub(crate) fn number_at(text: &[u8], at: usize, i: usize) -> u16
+    requires { ⌜ (at + 2 * i + 4 ≤ length (now text)) × T (digitsAt (drop at (now text)) i) × T (digitsAt (drop at (now text)) (i + 1)) ⌝ }
+    ensures { λ r. ⌜ r ≡ byteAt (drop at (now (text .entry))) i * 256 + byteAt (drop at (now (text .entry))) (i + 1) ⌝ }
+{
+    let high = byte_at(text, at, i);
+    let low = byte_at(text, at, i + 1);
+    long(high) * 256 + long(low)
+}
+
+fn long(x: u8) -> u16
+    ensures { λ r. ⌜ r ≡ x ⌝ }
+{
+    x as u16
 }
