@@ -3,3 +3,6 @@ pub mod Frames
 pub mod Lines
 pub mod Stages
 pub mod Walks
+pub mod Judging
+pub mod ReadsText
+pub mod Advances

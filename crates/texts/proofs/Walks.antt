@@ -76,6 +76,18 @@ pub size-most : (cs : List ℕ) → sizeAt cs ≤ 23
 unfolding sizeAt
 size-most cs = omega (arith, payload-most (byteAt cs 0))
 
+-- how many bytes a frame has, by its kind
+pub size-of : (cs : List ℕ) (k : ℕ) → byteAt cs 0 ≡ k → sizeAt cs ≡ getD payloads k 0 + 2
+unfolding sizeAt
+size-of cs k e = ap (λ (x : ℕ). getD payloads x 0 + 2) e
+
+-- the pairs of a well formed line are digits, and stand within the text
+pub well-digits : (cs : List ℕ) → Well cs → (i : ℕ) → i < sizeAt cs → T (digitsAt cs i)
+well-digits cs w i h = hex-at cs i (sizeAt cs) (omega (arith, w .room)) (w .digits) h
+
+pub well-room : (text : List ℕ) (at : ℕ) → Well (drop at text) → at + 2 * sizeAt (drop at text) < length text
+well-room text at w = omega (arith, w .room, length-drop at text)
+
 -- a kind is 1 to 7
 kind-bounds : (k : ℕ) → T (isKind k) → (1 ≤ k) × (k < 8)
 unfolding isKind

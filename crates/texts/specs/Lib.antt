@@ -3,4 +3,5 @@ pub mod Frame
 pub mod Lines
 pub mod Reader
 pub mod Walk
+pub mod Judging
 pub mod Writers
