@@ -101,7 +101,7 @@ module _ (cs : List ℕ) (w : Well cs) (stage : Stage) (line : ℕ) where
   past-18 e t =
       past-17 e
       ∙ row-passes (not (follows stage (kind (front cs)))) 18 line (rows-19 (front cs) (rest cs) stage line)
-        (twice-not (follows stage (kind (front cs))) (rw (front-kind cs w) t))
+      (twice-not (follows stage (kind (front cs))) (rw (front-kind cs w) t))
 
   -- the number that a close states
   close-count : byteAt cs 0 ≡ 6 → pair (front cs) 1 ≡ byteAt cs 1 * 256 + byteAt cs 2
@@ -115,16 +115,16 @@ module _ (cs : List ℕ) (w : Well cs) (stage : Stage) (line : ℕ) where
   row-19 e t six f =
       past-18 e t
       ∙ row-applies (eqb (kind (front cs)) 6 && not (eqb (pair (front cs) 1) line)) 19 line (lineRows (after stage (kind (front cs))) (suc line) (rest cs))
-        (both (eqb (kind (front cs)) 6) (not (eqb (pair (front cs) 1) line)) (eq→eqb (kind (front cs)) 6 (front-kind cs w ∙ six))
-        (ne→neqb (pair (front cs) 1) line (λ q. f (sym (close-count six) ∙ q))))
+      (both (eqb (kind (front cs)) 6) (not (eqb (pair (front cs) 1) line)) (eq→eqb (kind (front cs)) 6 (front-kind cs w ∙ six))
+      (ne→neqb (pair (front cs) 1) line (λ q. f (sym (close-count six) ∙ q))))
 
   past-19 : (byteAt cs 0 ≡ 6 → byteAt cs 1 * 256 + byteAt cs 2 ≡ line) → T (not (eqb (kind (front cs)) 6 && not (eqb (pair (front cs) 1) line)))
   past-19 f =
       not-T (eqb (kind (front cs)) 6 && not (eqb (pair (front cs) 1) line))
       (λ t.
-        let six = sym (front-kind cs w) ∙ eqb→eq (kind (front cs)) 6 (left-of (eqb (kind (front cs)) 6) (not (eqb (pair (front cs) 1) line)) t) in
-        T-not (eqb (pair (front cs) 1) line) (right-of (eqb (kind (front cs)) 6) (not (eqb (pair (front cs) 1) line)) t)
-        (eq→eqb (pair (front cs) 1) line (close-count six ∙ f six)))
+      let six = sym (front-kind cs w) ∙ eqb→eq (kind (front cs)) 6 (left-of (eqb (kind (front cs)) 6) (not (eqb (pair (front cs) 1) line)) t) in
+      T-not (eqb (pair (front cs) 1) line) (right-of (eqb (kind (front cs)) 6) (not (eqb (pair (front cs) 1) line)) t)
+      (eq→eqb (pair (front cs) 1) line (close-count six ∙ f six)))
 
 -- past a line that passed, the lines behind it are judged
 pub rows-pass : (cs : List ℕ) (stage : Stage) (line : ℕ) → Passes cs stage line

@@ -8,10 +8,9 @@ ghost use Rattle.texts.specs.Lines.{linesOf, lineRows};
 ghost use Rattle.texts.specs.Reader.{read, readerRows};
 ghost use Rattle.texts.specs.Walk.{Found};
 ghost use Rattle.texts.specs.Judging.{LineJudged, Ready, Advanced};
-
+use crate::Reading;
 use crate::frame::Frame;
 use crate::stage::Stage;
-use crate::Reading;
 
 // How far judging has come: the place in the text, the line, the stage, the head's numbers, and the links and cuts so far.
 pub(crate) struct Progress {
@@ -69,12 +68,36 @@ fn advance(text: &[u8], s: Progress, f: Frame) -> Progress
         };
     }
     if kind == 2 {
-        return Progress { at: next, line: s.line + 1, stage: stage, n: s.n, k: s.k, links: s.links + 1, cuts: s.cuts };
+        return Progress {
+            at: next,
+            line: s.line + 1,
+            stage: stage,
+            n: s.n,
+            k: s.k,
+            links: s.links + 1,
+            cuts: s.cuts,
+        };
     }
     if kind == 3 {
-        return Progress { at: next, line: s.line + 1, stage: stage, n: s.n, k: s.k, links: s.links, cuts: s.cuts + 1 };
+        return Progress {
+            at: next,
+            line: s.line + 1,
+            stage: stage,
+            n: s.n,
+            k: s.k,
+            links: s.links,
+            cuts: s.cuts + 1,
+        };
     }
-    Progress { at: next, line: s.line + 1, stage: stage, n: s.n, k: s.k, links: s.links, cuts: s.cuts }
+    Progress {
+        at: next,
+        line: s.line + 1,
+        stage: stage,
+        n: s.n,
+        k: s.k,
+        links: s.links,
+        cuts: s.cuts,
+    }
 }
 
 // Rows 16 to 19 on each line in turn, and what the text holds.
@@ -82,21 +105,40 @@ fn judge_lines(text: &[u8]) -> Reading
     requires { ⌜ length (now text) ≤ 65536 ⌝ }
     ensures { λ r. ⌜ r ≡ read (first (lineRows Opening 0 (linesOf (now (text .entry))))) (linesOf (now (text .entry))) ⌝ }
 {
-    let mut s = Progress { at: 0, line: 0, stage: Stage::Opening, n: 0, k: 0, links: 0, cuts: 0 };
+    let mut s = Progress {
+        at: 0,
+        line: 0,
+        stage: Stage::Opening,
+        n: 0,
+        k: 0,
+        links: 0,
+        cuts: 0,
+    };
     while s.at < text.len() {
         let f = crate::frame::frame_at(text, s.at);
         let stage = s.stage;
         let number = line_row(text, s.at, f, stage, s.line);
         if number != 0 {
-            return Reading::Refused { number: number, place: s.line };
+            return Reading::Refused {
+                number: number,
+                place: s.line,
+            };
         }
         s = advance(text, s, f);
     }
     let stage = s.stage;
     if crate::stage::is_open(stage) {
-        return Reading::Refused { number: 18, place: s.line };
+        return Reading::Refused {
+            number: 18,
+            place: s.line,
+        };
     }
-    Reading::Got { n: s.n, k: s.k, links: s.links, cuts: s.cuts }
+    Reading::Got {
+        n: s.n,
+        k: s.k,
+        links: s.links,
+        cuts: s.cuts,
+    }
 }
 
 // What the reader answers, by the text and the room lent for links and cuts.
@@ -104,23 +146,38 @@ pub fn judge(text: &[u8], lent: usize, room: usize) -> Reading
     ensures { λ r. ⌜ r ≡ read (first (readerRows (now (text .entry)) lent room)) (linesOf (now (text .entry))) ⌝ }
 {
     if 65536 < text.len() {
-        return Reading::Refused { number: 15, place: 0 };
+        return Reading::Refused {
+            number: 15,
+            place: 0,
+        };
     }
     let found = judge_lines(text);
     match found {
         Reading::Refused { number, place } => Reading::Refused { number, place },
         Reading::Got { n, k, links, cuts } => {
             if 4096 < links {
-                return Reading::Refused { number: 3, place: 0 };
+                return Reading::Refused {
+                    number: 3,
+                    place: 0,
+                };
             }
             if 127 < cuts {
-                return Reading::Refused { number: 9, place: 0 };
+                return Reading::Refused {
+                    number: 9,
+                    place: 0,
+                };
             }
             if lent < links as usize {
-                return Reading::Refused { number: 14, place: 0 };
+                return Reading::Refused {
+                    number: 14,
+                    place: 0,
+                };
             }
             if room < cuts as usize * 21 {
-                return Reading::Refused { number: 8, place: 0 };
+                return Reading::Refused {
+                    number: 8,
+                    place: 0,
+                };
             }
             Reading::Got { n, k, links, cuts }
         }
