@@ -20,7 +20,7 @@ abbrev pub Bytes : List ℕ → Type 0
 Bytes bs = (i : ℕ) → getD bs i 0 < 256
 
 -- by which way a choice went
-pub chosen : (b : Bool) (x y : ℕ) → (T b × (cond b x y ≡ x)) ⊎ (T (not b) × (cond b x y ≡ y))
+pub chosen : {A : Type 0} (b : Bool) (x y : A) → (T b × (cond b x y ≡ x)) ⊎ (T (not b) × (cond b x y ≡ y))
 chosen true x y = inl (tt, refl)
 chosen false x y = inr (tt, refl)
 

@@ -6,3 +6,4 @@ pub mod Walks
 pub mod Judging
 pub mod ReadsText
 pub mod Advances
+pub mod ReadsRows

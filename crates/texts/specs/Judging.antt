@@ -1,7 +1,8 @@
 -- What the parts of the judging pass promise each other: a line that passed, and what is left to read from there on.
 use Prim.Native.Nat.{ℕ, _+_, _*_, _/_, _≤_, _<_}
 use mathlib.Core.Path.{_≡_}
-use mathlib.Core.List.{List}
+use mathlib.Core.Bool.{Bool, true, _&&_}
+use mathlib.Core.List.{List, [], _∷_}
 use lib.Dec.{T}
 use lib.ListN.{length, take, drop}
 use Rattle.meaning.specs.declared.Judged.{Judged}
@@ -14,7 +15,7 @@ use Rattle.texts.specs.declared.frame.Frame.{Frame}
 use Rattle.texts.specs.declared.stage.Stage.{Stage}
 use Rattle.texts.specs.declared.stage.Stage.the-variants.{Opening, Linking, Cutting, Closed}
 use Rattle.texts.specs.declared.judge.Progress.{Progress}
-use Rattle.texts.specs.Frame.{byteSum, bytesOf}
+use Rattle.texts.specs.Frame.{byteSum, bytesOf, wellFormed}
 use Rattle.texts.specs.Lines.{Line, linesOf, follows, lineRows}
 use Rattle.texts.specs.Reader.{linksIn, entriesIn, bonesIn, thresholdIn}
 use Rattle.texts.specs.Walk.{byteAt, sizeAt, Well, Found}
@@ -66,3 +67,8 @@ pub record Advanced (text : List ℕ) (s s′ : Progress) : Type 0 where
   pub small : Small text s′
   pub further : s .at < s′ .at
   pub same : readFrom s (linesOf (drop (s .at) text)) ≡ readFrom s′ (linesOf (drop (s′ .at) text))
+
+-- every line is a well formed frame
+unfoldable pub allWell : List Line → Bool
+allWell [] = true
+allWell (l ∷ ls) = (l .ended && wellFormed (l .characters)) && allWell ls
