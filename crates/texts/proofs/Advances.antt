@@ -4,12 +4,10 @@ use Prim.Native.Nat.{ℕ, zero, suc, _+_, _*_, _-_, _/_, _≤_, _<_}
 use mathlib.Core.Path.{_≡_, refl, sym, _∙_, ap, ap₂, subst}
 use mathlib.Core.Bool.{Bool, true, false, true≢false}
 use mathlib.Core.List.{List, [], _∷_, _++_}
-use native.Mathlib.Nat.{add-assoc}
 use native.Mathlib.Numerals.{add-one}
 use native.Mathlib.Omega.{arith}
 use lib.Dec.{T}
 use lib.ListN.{length, drop, length-append, drop-of-length-le}
-use lib.Seq.{drop-drop}
 use Rattle.meaning.specs.declared.Judged.{Judged}
 use Rattle.meaning.specs.declared.Judged.the-variants.{Accepted, Refused}
 use Rattle.meaning.specs.Judge.{refuse, first}
@@ -27,7 +25,7 @@ use Rattle.texts.specs.Walk.{byteAt, digitsAt, sizeAt, Well, Found}
 use Rattle.texts.specs.Judging.{Passes, LineJudged, Small, Ready, Advanced, headFrom, answer, readFrom}
 use Rattle.texts.proofs.Lines.{front}
 use Rattle.texts.proofs.Walks.{size-of, well-digits, well-room}
-use Rattle.texts.proofs.Judging.{row-applies, row-passes, rest, rows-pass, head-read, head-kept}
+use Rattle.texts.proofs.Judging.{row-applies, row-passes, rest, rest-at, rows-pass, head-read, head-kept}
 use Rattle.texts.proofs.ReadsText.{bones-front, threshold-front, links-front, links-skip, entries-front, entries-skip, entry-length}
 
 -- behind the frame at a place, one line further
@@ -38,9 +36,7 @@ pub record Moved (text : List ℕ) (s s′ : Progress) : Type 0 where
 
 module _ (text : List ℕ) (s s′ : Progress) (small : Small text s) (p : Passes (drop (s .at) text) (s .stage) (s .line)) (m : Moved text s s′) where
   rest-here : rest (drop (s .at) text) ≡ linesOf (drop (s′ .at) text)
-  rest-here =
-      ap linesOf (drop-drop (2 * sizeAt (drop (s .at) text) + 1) (s .at) text)
-      ∙ ap (λ (n : ℕ). linesOf (drop n text)) (sym (add-assoc (s .at) (2 * sizeAt (drop (s .at) text)) 1) ∙ sym (m .place))
+  rest-here = rest-at text (s .at) (s′ .at) (m .place)
 
   -- the answer is the same where its parts are, behind the frame
   same-answer : headFrom (s .stage) (bonesIn (linesOf (drop (s .at) text))) (s .n) ≡ headFrom (after (s .stage) (byteAt (drop (s .at) text) 0)) (bonesIn (rest (drop (s .at) text))) (s′ .n)

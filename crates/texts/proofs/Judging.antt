@@ -4,6 +4,7 @@ use Prim.Native.Nat.{ℕ, zero, suc, _+_, _*_, _-_, _/_, _≤_, _<_}
 use mathlib.Core.Path.{_≡_, refl, sym, _∙_, ap, ap₂, subst}
 use mathlib.Core.Bool.{Bool, true, false, cond, not, _&&_, _||_}
 use mathlib.Core.List.{List, [], _∷_, _++_}
+use native.Mathlib.Nat.{add-assoc}
 use native.Mathlib.Omega.{arith}
 use borrow.Author.Tests.{eq-eqb, ne-eqb}
 use lib.Dec.{T, eqb, eqb→eq, not-T, T-not}
@@ -40,7 +41,7 @@ unfolding before
 lines-before c [] = omega arith
 lines-before c (l ∷ ls) = omega arith
 
-lines-some : (cs : List ℕ) → 0 < length cs → 0 < length (linesOf cs)
+pub lines-some : (cs : List ℕ) → 0 < length cs → 0 < length (linesOf cs)
 unfolding linesOf
 lines-some [] h = absurd (omega arith)
 lines-some (c ∷ cs) h = by-test (eqb c 10)
@@ -79,6 +80,12 @@ rows-16 l ls stage line t =
 -- behind a frame
 abbrev pub rest : List ℕ → List Line
 rest cs = linesOf (drop (2 * sizeAt cs + 1) cs)
+
+-- behind the frame at a place
+pub rest-at : (text : List ℕ) (at next : ℕ) → next ≡ at + 2 * sizeAt (drop at text) + 1 → rest (drop at text) ≡ linesOf (drop next text)
+rest-at text at next e =
+    ap linesOf (drop-drop (2 * sizeAt (drop at text) + 1) at text)
+    ∙ ap (λ (n : ℕ). linesOf (drop n text)) (sym (add-assoc at (2 * sizeAt (drop at text)) 1) ∙ sym e)
 
 module _ (cs : List ℕ) (w : Well cs) (stage : Stage) (line : ℕ) where
   rows-well : first (lineRows stage line (linesOf cs)) ≡ first (rows-17 (front cs) (rest cs) stage line)

@@ -7,3 +7,4 @@ pub mod Judging
 pub mod ReadsText
 pub mod Advances
 pub mod ReadsRows
+pub mod ReadsStore

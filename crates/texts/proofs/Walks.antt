@@ -88,6 +88,12 @@ well-digits cs w i h = hex-at cs i (sizeAt cs) (omega (arith, w .room)) (w .digi
 pub well-room : (text : List ℕ) (at : ℕ) → Well (drop at text) → at + 2 * sizeAt (drop at text) < length text
 well-room text at w = omega (arith, w .room, length-drop at text)
 
+pub within : (text : List ℕ) (at k : ℕ) → Well (drop at text) → byteAt (drop at text) 0 ≡ k → (i : ℕ) → i < getD payloads k 0 + 2
+    → (at + 2 * i + 2 ≤ length text) × T (digitsAt (drop at text) i)
+within text at k w e i h =
+    let s = size-of (drop at text) k e in
+    (omega (arith, well-room text at w), well-digits (drop at text) w i (omega arith))
+
 -- a kind is 1 to 7
 kind-bounds : (k : ℕ) → T (isKind k) → (1 ≤ k) × (k < 8)
 unfolding isKind

@@ -4,4 +4,5 @@ pub mod Lines
 pub mod Reader
 pub mod Walk
 pub mod Judging
+pub mod Storing
 pub mod Writers

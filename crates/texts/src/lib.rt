@@ -3,6 +3,7 @@
 mod frame;
 mod judge;
 mod stage;
+mod store;
 
 // What the reader answers: a refusal of the table with its place, or the head's two numbers and how many links and cuts were read.
 pub enum Reading {

@@ -1,0 +1,62 @@
+// The storing pass over a text that was judged: its frames found again, and what links and cuts hold.
+ghost use mathlib.Core.Path.{_≡_};
+ghost use mathlib.Core.List.{_++_};
+ghost use Prim.Native.Nat.{_+_, _*_, _<_, _≤_};
+ghost use lib.Dec.{T};
+ghost use lib.ListN.{length, take, drop};
+ghost use Rattle.texts.specs.Lines.{linesOf};
+ghost use Rattle.texts.specs.Reader.{entriesIn};
+ghost use Rattle.texts.specs.Walk.{byteAt, sizeAt, Well};
+ghost use Rattle.texts.specs.Judging.{allWell};
+ghost use Rattle.texts.specs.Storing.{Skipped, payloadAt, linkAt};
+use crate::frame::byte_at;
+use crate::frame::number_at;
+use crate::frame::payload;
+use meaning::Link;
+
+// The place behind the frame at a place.
+pub(crate) fn line_after(text: &[u8], at: usize) -> usize
+    requires { ⌜ Well (drop at (now text)) ⌝ }
+    ensures { λ r. ⌜ r ≡ at + 2 * sizeAt (drop at (now (text .entry))) + 1 ⌝ }
+{
+    at + 2 * (payload(byte_at(text, at, 0) as usize) + 2) + 1
+}
+
+// The place of the next frame of that kind, or the end of the text.
+pub(crate) fn find_kind(text: &[u8], from: usize, kind: u8) -> usize
+    requires { ⌜ (from ≤ length (now text)) × T (allWell (linesOf (drop from (now text)))) ⌝ }
+    ensures { λ r. ⌜ Skipped (now (text .entry)) from kind r ⌝ }
+{
+    let mut at = from;
+    while at < text.len() {
+        if byte_at(text, at, 0) == kind {
+            return at;
+        }
+        at = line_after(text, at);
+    }
+    at
+}
+
+// The link of the frame at a place.
+pub(crate) fn link_here(text: &[u8], at: usize) -> Link
+    requires { ⌜ Well (drop at (now text)) × (byteAt (drop at (now text)) 0 ≡ 2) ⌝ }
+    ensures { λ r. ⌜ r ≡ linkAt (drop at (now (text .entry))) ⌝ }
+{
+    Link {
+        a: byte_at(text, at, 1),
+        b: byte_at(text, at, 2),
+        tally: number_at(text, at, 3),
+    }
+}
+
+// The entry of the frame at a place, put into the record space.
+fn store_entry(text: &[u8], at: usize, space: &mut [u8], to: usize)
+    requires { ⌜ Well (drop at (now text)) × (byteAt (drop at (now text)) 0 ≡ 3) × (to + 21 ≤ length (now space)) ⌝ }
+    ensures { λ _. ⌜ now (space .exit) ≡ take to (now (space .entry)) ++ payloadAt (drop at (now (text .entry))) 21 ++ drop (to + 21) (now (space .entry)) ⌝ }
+{
+    let mut i = 0;
+    while i < 21 {
+        space[to + i] = byte_at(text, at, i + 1);
+        i += 1;
+    }
+}
