@@ -8,3 +8,4 @@ pub mod ReadsText
 pub mod Advances
 pub mod ReadsRows
 pub mod ReadsStore
+pub mod ReadsPut

@@ -9,7 +9,7 @@ use native.Mathlib.Nat.{add-zero, eq-or-lt-of-le, le-of-suc-le-suc}
 use native.Mathlib.Numerals.{add-one}
 use native.Mathlib.Omega.{arith}
 use borrow.Author.Tests.{eq-eqb, ne-eqb}
-use lib.Dec.{T, eqb}
+use lib.Dec.{T, eqb, eqb→eq}
 use lib.ListN.{length, getD, set, take, drop, length-append, length-take, length-drop, length-set, take-append-drop, drop-of-length-le, List·getD-append}
 use lib.Seq.{length-take-le, drop-drop, drop-cons, append-snoc, set-at, ext-getD, getD-at}
 use Rattle.meaning.proofs.Tests.{both, left-of, right-of}
@@ -21,6 +21,7 @@ use Rattle.texts.specs.Reader.{linkIn, entryIn, linksIn, entriesIn}
 use Rattle.texts.specs.Walk.{byteAt, digitsAt, sizeAt, Well}
 use Rattle.texts.specs.Judging.{allWell}
 use Rattle.texts.specs.Storing.{skipTo, Skipped, payloadAt, linkAt}
+use Rattle.texts.proofs.Frames.{chosen}
 use Rattle.texts.proofs.Lines.{front, front-lines, front-kind, wellFirst, well-first}
 use Rattle.texts.proofs.Walks.{size-of, well-digits, well-room, size-least, size-most}
 use Rattle.texts.proofs.Judging.{rest, rest-at, lines-some}
@@ -34,6 +35,12 @@ first-well (l ∷ ls) h t = left-of (l .ended && wellFormed (l .characters)) (al
 
 pub all-front : (cs : List ℕ) → 0 < length cs → T (allWell (linesOf cs)) → Well cs
 all-front cs h t = well-first cs (first-well (linesOf cs) (lines-some cs h) t)
+
+-- and where there are lines there are characters
+text-some : (cs : List ℕ) → 0 < length (linesOf cs) → 0 < length cs
+unfolding linesOf
+text-some [] h = h
+text-some (c ∷ cs) h = omega arith
 
 pub all-rest : (cs : List ℕ) → Well cs → T (allWell (linesOf cs)) → T (allWell (rest cs))
 unfolding allWell
@@ -142,3 +149,51 @@ stored-more cs space to i b h e =
 pub stored-length : (cs space : List ℕ) (to i : ℕ) → to + i ≤ length space → length (stored cs space to i) ≡ length space
 stored-length cs space to i h =
     omega (arith, length-append (take to space ++ payloadAt cs i) (drop (to + i) space), front-length-of cs space to i (omega arith), length-drop (to + i) space)
+
+-- the frame that was found: of that kind, with nothing of it passed over
+headKind : ℕ → List Line → ℕ
+headKind k [] = k
+headKind k (l ∷ ls) = kind l
+
+skip-kind : (k : ℕ) (ls : List Line) → headKind k (skipTo k ls) ≡ k
+unfolding headKind skipTo
+skip-kind k [] = refl
+skip-kind k (l ∷ ls) =
+    ⊎-elim
+    (λ c. ap (headKind k) (c .1) ∙ eqb→eq (kind l) k (c .0))
+    (λ c. ap (headKind k) (c .1) ∙ skip-kind k ls)
+    (chosen (eqb (kind l) k) (l ∷ ls) (skipTo k ls))
+
+pub skip-links : (ls : List Line) → linksIn (skipTo 2 ls) ≡ linksIn ls
+unfolding linksIn skipTo
+skip-links [] = refl
+skip-links (l ∷ ls) = by-kind (eqb (kind l) 2) refl (skip-links ls)
+  where
+    by-kind : (b : Bool) → eqb (kind l) 2 ≡ b → linksIn (skipTo 2 ls) ≡ linksIn ls → linksIn (cond (eqb (kind l) 2) (l ∷ ls) (skipTo 2 ls)) ≡ cond (eqb (kind l) 2) (linkIn l ∷ linksIn ls) (linksIn ls)
+    by-kind true e h = rw e (rw e)
+    by-kind false e h = rw e h
+
+pub skip-entries : (ls : List Line) → entriesIn (skipTo 3 ls) ≡ entriesIn ls
+unfolding entriesIn skipTo
+skip-entries [] = refl
+skip-entries (l ∷ ls) = by-kind (eqb (kind l) 3) refl (skip-entries ls)
+  where
+    by-kind : (b : Bool) → eqb (kind l) 3 ≡ b → entriesIn (skipTo 3 ls) ≡ entriesIn ls → entriesIn (cond (eqb (kind l) 3) (l ∷ ls) (skipTo 3 ls)) ≡ cond (eqb (kind l) 3) (entryIn l ++ entriesIn ls) (entriesIn ls)
+    by-kind true e h = rw e (rw e)
+    by-kind false e h = rw e h
+
+module _ (text : List ℕ) (at k p : ℕ) (s : Skipped text at k p) (some : 0 < length (linesOf (drop p text))) where
+  pub skipped-well : Well (drop p text)
+  skipped-well = all-front (drop p text) (text-some (drop p text) some) (s .well)
+
+  pub skipped-kind : byteAt (drop p text) 0 ≡ k
+  unfolding headKind
+  skipped-kind =
+      sym (front-kind (drop p text) skipped-well)
+      ∙ ap (headKind k) (sym (front-lines (drop p text) skipped-well) ∙ s .lines)
+      ∙ skip-kind k (linesOf (drop at text))
+
+  pub skipped-rest : (next : ℕ) → next ≡ p + 2 * sizeAt (drop p text) + 1 → (next ≤ length text) × T (allWell (linesOf (drop next text)))
+  skipped-rest next e =
+      ( omega (arith, well-room text p skipped-well)
+      , subst (λ (ls : List Line). T (allWell ls)) (rest-at text p next e) (all-rest (drop p text) skipped-well (s .well)))

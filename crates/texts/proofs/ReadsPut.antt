@@ -1,0 +1,201 @@
+-- Laws of putting the links and the entries of a judged text into the room lent for them, one after the other.
+-- Assumes nothing.
+use Prim.Native.Nat.{ℕ, zero, suc, _+_, _*_, _-_, _≤_, _<_}
+use mathlib.Core.Path.{_≡_, refl, sym, _∙_, ap, ap₂, subst}
+use mathlib.Core.List.{List, [], _∷_, _++_, append-assoc, append-nil}
+use native.Mathlib.Nat.{zero-add}
+use native.Mathlib.Numerals.{add-one}
+use native.Mathlib.Omega.{arith}
+use lib.Dec.{T}
+use lib.ListN.{length, getD, set, take, drop, length-append, length-take, length-drop, length-set, take-append-drop}
+use lib.Seq.{length-take-le, append-snoc, take-at, drop-at, drop-drop, set-split}
+use Rattle.meaning.specs.declared.Link.{Link}
+use Rattle.cutting.specs.Record.{entrySize}
+use Rattle.texts.specs.Lines.{Line, linesOf}
+use Rattle.texts.specs.Reader.{linkIn, entryIn, linksIn, entriesIn}
+use Rattle.texts.specs.Walk.{byteAt, sizeAt, Well}
+use Rattle.texts.specs.Judging.{allWell}
+use Rattle.texts.specs.Storing.{Skipped, payloadAt, linkAt}
+use Rattle.texts.proofs.Lines.{front}
+use Rattle.texts.proofs.Judging.{rest, rest-at}
+use Rattle.texts.proofs.ReadsText.{links-front, link-front, entries-front}
+use Rattle.texts.proofs.ReadsStore.{entry-payload, payload-length, skip-links, skip-entries, skipped-well, skipped-kind, skipped-rest}
+
+-- so many were put at the front of the room, the rest of it is as it was, and with what is still held they are all
+pub record Putting {A : Type 0} (all held old room : List A) (done : ℕ) : Type 0 where
+  pub same-size : length room ≡ length old
+  pub fits : done + length held ≤ length old
+  pub put-so : take done room ++ held ≡ all
+  pub kept : drop done room ≡ drop done old
+
+-- at first nothing, and at the end all
+pub putting-none : {A : Type 0} (all old : List A) → length all ≤ length old → Putting all all old old 0
+putting-none all old h = record { same-size = refl; fits = omega arith; put-so = refl; kept = refl }
+
+pub putting-all : {A : Type 0} (all held old room : List A) (done : ℕ) → Putting all held old room done → length held ≡ 0 → room ≡ all ++ drop (length all) old
+putting-all {A} all held old room done p e =
+    let none : held ≡ [] = empty held e in
+    let q : take done room ≡ all = sym (append-nil (take done room)) ∙ ap (λ (l : List A). take done room ++ l) (sym none) ∙ p .put-so in
+    let n : done ≡ length all = sym (length-take-le done room (omega (arith, p .fits, p .same-size))) ∙ ap length q in
+    sym (take-append-drop done room) ∙ ap₂ _++_ q (p .kept ∙ ap (λ (m : ℕ). drop m old) n)
+  where
+    empty : (l : List A) → length l ≡ 0 → l ≡ []
+    empty [] e = refl
+    empty (x ∷ xs) e = absurd (omega arith)
+
+-- one part more
+pub putting-more : {A : Type 0} (all held held′ old room room′ part : List A) (done done′ : ℕ) → Putting all held old room done → held ≡ part ++ held′
+    → done′ ≡ done + length part → room′ ≡ take done room ++ part ++ drop done′ room → Putting all held′ old room′ done′
+putting-more {A} all held held′ old room room′ part done done′ p e d r =
+    let sizes : length held ≡ length part + length held′ = ap length e ∙ length-append part held′ in
+    let a : done ≤ length room = omega (arith, p .fits, p .same-size) in
+    let b : done′ ≤ length room = omega (arith, p .fits, p .same-size) in
+    let n : length (take done room ++ part) ≡ done′ = length-append (take done room) part ∙ omega (arith, length-take-le done room a) in
+    record {
+      same-size = ap length r ∙ length-append (take done room ++ part) (drop done′ room) ∙ omega (arith, n, length-drop done′ room, p .same-size);
+      fits = omega (arith, p .fits);
+      put-so =
+        ap (λ (l : List A). take done′ l ++ held′) r
+        ∙ ap (λ (l : List A). l ++ held′) (take-at (take done room ++ part) (drop done′ room) done′ n)
+        ∙ append-assoc (take done room) part held′
+        ∙ ap (λ (l : List A). take done room ++ l) (sym e)
+        ∙ p .put-so;
+      kept =
+        ap (drop done′) r
+        ∙ drop-at (take done room ++ part) (drop done′ room) done′ n
+        ∙ ap (λ (m : ℕ). drop m room) d
+        ∙ sym (drop-drop (length part) done room)
+        ∙ ap (drop (length part)) (p .kept)
+        ∙ drop-drop (length part) done old
+        ∙ ap (λ (m : ℕ). drop m old) (sym d);
+    }
+
+-- how far storing has come: the text from a place on is well formed, and what it holds is still to be put
+pub record StoringLinks (text : List ℕ) (old room : List Link) (count at done : ℕ) : Type 0 where
+  pub within : at ≤ length text
+  pub well : T (allWell (linesOf (drop at text)))
+  pub total : done + length (linksIn (linesOf (drop at text))) ≡ count
+  pub putting : Putting (linksIn (linesOf text)) (linksIn (linesOf (drop at text))) old room done
+
+pub record StoringCuts (text : List ℕ) (old room : List ℕ) (cuts at done : ℕ) : Type 0 where
+  pub within : at ≤ length text
+  pub well : T (allWell (linesOf (drop at text)))
+  pub total : done * 21 + length (entriesIn (linesOf (drop at text))) ≡ cuts * 21
+  pub putting : Putting (entriesIn (linesOf text)) (entriesIn (linesOf (drop at text))) old room (done * 21)
+
+-- where there are links, or entries, there are lines
+lines-of-links : (ls : List Line) → 0 < length (linksIn ls) → 0 < length ls
+unfolding linksIn
+lines-of-links [] h = h
+lines-of-links (l ∷ ls) h = omega arith
+
+lines-of-entries : (ls : List Line) → 0 < length (entriesIn ls) → 0 < length ls
+unfolding entriesIn
+lines-of-entries [] h = h
+lines-of-entries (l ∷ ls) h = omega arith
+
+-- the next link, and the next entry
+module _ (text : List ℕ) (at p : ℕ) (s : Skipped text at 2 p) (more : 0 < length (linksIn (linesOf (drop at text)))) where
+  found-links : linksIn (linesOf (drop p text)) ≡ linksIn (linesOf (drop at text))
+  found-links = ap linksIn (s .lines) ∙ skip-links (linesOf (drop at text))
+
+  link-lines : 0 < length (linesOf (drop p text))
+  link-lines = lines-of-links (linesOf (drop p text)) (omega (arith, ap length found-links))
+
+  pub link-well : Well (drop p text)
+  link-well = skipped-well text at 2 p s link-lines
+
+  pub link-kind : byteAt (drop p text) 0 ≡ 2
+  link-kind = skipped-kind text at 2 p s link-lines
+
+  pub link-next : (next : ℕ) → next ≡ p + 2 * sizeAt (drop p text) + 1 → linksIn (linesOf (drop at text)) ≡ linkAt (drop p text) ∷ linksIn (linesOf (drop next text))
+  unfolding linkAt
+  link-next next e =
+      sym found-links
+      ∙ links-front (drop p text) link-well link-kind
+      ∙ ap₂ (λ (l : Link) (ls : List Line). l ∷ linksIn ls) (link-front (drop p text) link-well link-kind) (rest-at text p next e)
+
+module _ (text : List ℕ) (at p : ℕ) (s : Skipped text at 3 p) (more : 0 < length (entriesIn (linesOf (drop at text)))) where
+  found-entries : entriesIn (linesOf (drop p text)) ≡ entriesIn (linesOf (drop at text))
+  found-entries = ap entriesIn (s .lines) ∙ skip-entries (linesOf (drop at text))
+
+  cut-lines : 0 < length (linesOf (drop p text))
+  cut-lines = lines-of-entries (linesOf (drop p text)) (omega (arith, ap length found-entries))
+
+  pub cut-well : Well (drop p text)
+  cut-well = skipped-well text at 3 p s cut-lines
+
+  pub cut-kind : byteAt (drop p text) 0 ≡ 3
+  cut-kind = skipped-kind text at 3 p s cut-lines
+
+  pub cut-next : (next : ℕ) → next ≡ p + 2 * sizeAt (drop p text) + 1 → entriesIn (linesOf (drop at text)) ≡ payloadAt (drop p text) 21 ++ entriesIn (linesOf (drop next text))
+  cut-next next e =
+      sym found-entries
+      ∙ entries-front (drop p text) cut-well cut-kind
+      ∙ ap₂ (λ (l : List ℕ) (ls : List Line). l ++ entriesIn ls) (entry-payload (drop p text) cut-well cut-kind) (rest-at text p next e)
+
+-- storing links: the start, one more, the end
+pub links-start : (text : List ℕ) (old : List Link) (count : ℕ) → T (allWell (linesOf text)) → length (linksIn (linesOf text)) ≡ count → count ≤ length old
+    → StoringLinks text old old count 0 0
+links-start text old count t e h =
+    record { within = omega arith; well = t; total = omega arith; putting = putting-none (linksIn (linesOf text)) old (omega arith) }
+
+module _ (text : List ℕ) (old room : List Link) (count at done : ℕ) (g : StoringLinks text old room count at done) where
+  pub links-left : done < count → 0 < length (linksIn (linesOf (drop at text)))
+  links-left h = omega (arith, g .total)
+
+  pub links-more : done < count → (p : ℕ) → Skipped text at 2 p → (next : ℕ) → next ≡ p + 2 * sizeAt (drop p text) + 1 → (room′ : List Link)
+      → room′ ≡ set room done (linkAt (drop p text)) → StoringLinks text old room′ count next (done + 1)
+  links-more h p s next e room′ r =
+      let left = links-left h in
+      let taken = link-next text at p s left next e in
+      let behind = skipped-rest text at 2 p s (link-lines text at p s left) next e in
+      let i : done < length room = omega (arith, g .total, g .putting .fits, g .putting .same-size) in
+      record {
+        within = behind .0;
+        well = behind .1;
+        total = omega (arith, g .total, ap length taken);
+        putting =
+          putting-more (linksIn (linesOf text)) (linksIn (linesOf (drop at text))) (linksIn (linesOf (drop next text))) old room room′ (linkAt (drop p text) ∷ []) done (done + 1)
+          (g .putting) taken refl
+          (r
+          ∙ set-split room done (linkAt (drop p text)) i
+          ∙ sym (append-snoc (take done room) (linkAt (drop p text)) (drop (suc done) room))
+          ∙ ap (λ (n : ℕ). take done room ++ (linkAt (drop p text) ∷ []) ++ drop n room) (sym (add-one done)));
+      }
+
+  pub links-end : count ≤ done → room ≡ linksIn (linesOf text) ++ drop (length (linksIn (linesOf text))) old
+  links-end h = putting-all (linksIn (linesOf text)) (linksIn (linesOf (drop at text))) old room done (g .putting) (omega (arith, g .total))
+
+-- storing entries: the start, one more, the end
+pub cuts-start : (text old : List ℕ) (cuts : ℕ) → T (allWell (linesOf text)) → length (entriesIn (linesOf text)) ≡ cuts * 21 → cuts * 21 ≤ length old
+    → StoringCuts text old old cuts 0 0
+cuts-start text old cuts t e h =
+    record { within = omega arith; well = t; total = omega arith; putting = putting-none (entriesIn (linesOf text)) old (omega arith) }
+
+module _ (text old room : List ℕ) (cuts at done : ℕ) (g : StoringCuts text old room cuts at done) where
+  pub cuts-left : done < cuts → 0 < length (entriesIn (linesOf (drop at text)))
+  cuts-left h = omega (arith, g .total)
+
+  pub cuts-room : done < cuts → done * 21 + 21 ≤ length room
+  cuts-room h = omega (arith, g .total, g .putting .fits, g .putting .same-size)
+
+  pub cuts-more : done < cuts → (p : ℕ) → Skipped text at 3 p → (next : ℕ) → next ≡ p + 2 * sizeAt (drop p text) + 1 → (room′ : List ℕ)
+      → room′ ≡ take (done * 21) room ++ payloadAt (drop p text) 21 ++ drop (done * 21 + 21) room → StoringCuts text old room′ cuts next (done + 1)
+  cuts-more h p s next e room′ r =
+      let left = cuts-left h in
+      let taken = cut-next text at p s left next e in
+      let behind = skipped-rest text at 3 p s (cut-lines text at p s left) next e in
+      let n : (done + 1) * 21 ≡ done * 21 + 21 = omega arith in
+      record {
+        within = behind .0;
+        well = behind .1;
+        total = omega (arith, g .total, ap length taken, length-append (payloadAt (drop p text) 21) (entriesIn (linesOf (drop next text))), payload-length (drop p text) 21);
+        putting =
+          putting-more (entriesIn (linesOf text)) (entriesIn (linesOf (drop at text))) (entriesIn (linesOf (drop next text))) old room room′ (payloadAt (drop p text) 21) (done * 21) ((done + 1) * 21)
+          (g .putting) taken (n ∙ ap (λ (m : ℕ). done * 21 + m) (sym (payload-length (drop p text) 21)))
+          (r ∙ ap (λ (m : ℕ). take (done * 21) room ++ payloadAt (drop p text) 21 ++ drop m room) (sym n));
+      }
+
+  pub cuts-end : cuts ≤ done → room ≡ entriesIn (linesOf text) ++ drop (length (entriesIn (linesOf text))) old
+  cuts-end h = putting-all (entriesIn (linesOf text)) (entriesIn (linesOf (drop at text))) old room (done * 21) (g .putting) (omega (arith, g .total))
