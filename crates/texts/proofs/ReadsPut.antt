@@ -55,19 +55,19 @@ putting-more {A} all held held′ old room room′ part done done′ p e d r =
       same-size = ap length r ∙ length-append (take done room ++ part) (drop done′ room) ∙ omega (arith, n, length-drop done′ room, p .same-size);
       fits = omega (arith, p .fits);
       put-so =
-        ap (λ (l : List A). take done′ l ++ held′) r
-        ∙ ap (λ (l : List A). l ++ held′) (take-at (take done room ++ part) (drop done′ room) done′ n)
-        ∙ append-assoc (take done room) part held′
-        ∙ ap (λ (l : List A). take done room ++ l) (sym e)
-        ∙ p .put-so;
+          ap (λ (l : List A). take done′ l ++ held′) r
+          ∙ ap (λ (l : List A). l ++ held′) (take-at (take done room ++ part) (drop done′ room) done′ n)
+          ∙ append-assoc (take done room) part held′
+          ∙ ap (λ (l : List A). take done room ++ l) (sym e)
+          ∙ p .put-so;
       kept =
-        ap (drop done′) r
-        ∙ drop-at (take done room ++ part) (drop done′ room) done′ n
-        ∙ ap (λ (m : ℕ). drop m room) d
-        ∙ sym (drop-drop (length part) done room)
-        ∙ ap (drop (length part)) (p .kept)
-        ∙ drop-drop (length part) done old
-        ∙ ap (λ (m : ℕ). drop m old) (sym d);
+          ap (drop done′) r
+          ∙ drop-at (take done room ++ part) (drop done′ room) done′ n
+          ∙ ap (λ (m : ℕ). drop m room) d
+          ∙ sym (drop-drop (length part) done room)
+          ∙ ap (drop (length part)) (p .kept)
+          ∙ drop-drop (length part) done old
+          ∙ ap (λ (m : ℕ). drop m old) (sym d);
     }
 
 -- how far storing has come: the text from a place on is well formed, and what it holds is still to be put
@@ -156,12 +156,12 @@ module _ (text : List ℕ) (old room : List Link) (count at done : ℕ) (g : Sto
         well = behind .1;
         total = omega (arith, g .total, ap length taken);
         putting =
-          putting-more (linksIn (linesOf text)) (linksIn (linesOf (drop at text))) (linksIn (linesOf (drop next text))) old room room′ (linkAt (drop p text) ∷ []) done (done + 1)
-          (g .putting) taken refl
-          (r
-          ∙ set-split room done (linkAt (drop p text)) i
-          ∙ sym (append-snoc (take done room) (linkAt (drop p text)) (drop (suc done) room))
-          ∙ ap (λ (n : ℕ). take done room ++ (linkAt (drop p text) ∷ []) ++ drop n room) (sym (add-one done)));
+            putting-more (linksIn (linesOf text)) (linksIn (linesOf (drop at text))) (linksIn (linesOf (drop next text))) old room room′ (linkAt (drop p text) ∷ []) done (done + 1)
+            (g .putting) taken refl
+            (r
+            ∙ set-split room done (linkAt (drop p text)) i
+            ∙ sym (append-snoc (take done room) (linkAt (drop p text)) (drop (suc done) room))
+            ∙ ap (λ (n : ℕ). take done room ++ (linkAt (drop p text) ∷ []) ++ drop n room) (sym (add-one done)));
       }
 
   pub links-end : count ≤ done → room ≡ linksIn (linesOf text) ++ drop (length (linksIn (linesOf text))) old
@@ -192,9 +192,9 @@ module _ (text old room : List ℕ) (cuts at done : ℕ) (g : StoringCuts text o
         well = behind .1;
         total = omega (arith, g .total, ap length taken, length-append (payloadAt (drop p text) 21) (entriesIn (linesOf (drop next text))), payload-length (drop p text) 21);
         putting =
-          putting-more (entriesIn (linesOf text)) (entriesIn (linesOf (drop at text))) (entriesIn (linesOf (drop next text))) old room room′ (payloadAt (drop p text) 21) (done * 21) ((done + 1) * 21)
-          (g .putting) taken (n ∙ ap (λ (m : ℕ). done * 21 + m) (sym (payload-length (drop p text) 21)))
-          (r ∙ ap (λ (m : ℕ). take (done * 21) room ++ payloadAt (drop p text) 21 ++ drop m room) (sym n));
+            putting-more (entriesIn (linesOf text)) (entriesIn (linesOf (drop at text))) (entriesIn (linesOf (drop next text))) old room room′ (payloadAt (drop p text) 21) (done * 21) ((done + 1) * 21)
+            (g .putting) taken (n ∙ ap (λ (m : ℕ). done * 21 + m) (sym (payload-length (drop p text) 21)))
+            (r ∙ ap (λ (m : ℕ). take (done * 21) room ++ payloadAt (drop p text) 21 ++ drop m room) (sym n));
       }
 
   pub cuts-end : cuts ≤ done → room ≡ entriesIn (linesOf text) ++ drop (length (entriesIn (linesOf text))) old

@@ -194,6 +194,7 @@ module _ (text : List ℕ) (at k p : ℕ) (s : Skipped text at k p) (some : 0 < 
       ∙ skip-kind k (linesOf (drop at text))
 
   pub skipped-rest : (next : ℕ) → next ≡ p + 2 * sizeAt (drop p text) + 1 → (next ≤ length text) × T (allWell (linesOf (drop next text)))
-  skipped-rest next e =
-      ( omega (arith, well-room text p skipped-well)
-      , subst (λ (ls : List Line). T (allWell ls)) (rest-at text p next e) (all-rest (drop p text) skipped-well (s .well)))
+  skipped-rest next e = (
+    omega (arith, well-room text p skipped-well),
+    subst (λ (ls : List Line). T (allWell ls)) (rest-at text p next e) (all-rest (drop p text) skipped-well (s .well)),
+  )

@@ -60,3 +60,18 @@ fn store_entry(text: &[u8], at: usize, space: &mut [u8], to: usize)
         i += 1;
     }
 }
+
+// The entries of a text that was judged, put at the front of the record space; the rest of it stays.
+pub(crate) fn store_entries(text: &[u8], space: &mut [u8], cuts: usize)
+    requires { ⌜ T (allWell (linesOf (now text))) × (length (entriesIn (linesOf (now text))) ≡ cuts * 21) × (cuts * 21 ≤ length (now space)) ⌝ }
+    ensures { λ _. ⌜ now (space .exit) ≡ entriesIn (linesOf (now (text .entry))) ++ drop (length (entriesIn (linesOf (now (text .entry))))) (now (space .entry)) ⌝ }
+{
+    let mut at = 0;
+    let mut i = 0;
+    while i < cuts {
+        let here = find_kind(text, at, 3);
+        store_entry(text, here, space, i * 21);
+        at = line_after(text, here);
+        i += 1;
+    }
+}
