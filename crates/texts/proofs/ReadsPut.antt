@@ -2,20 +2,22 @@
 -- Assumes nothing.
 use Prim.Native.Nat.{ℕ, zero, suc, _+_, _*_, _-_, _≤_, _<_}
 use mathlib.Core.Path.{_≡_, refl, sym, _∙_, ap, ap₂, subst}
+use mathlib.Core.Logic.{_⊎_, inl, inr, ⊎-elim}
 use mathlib.Core.List.{List, [], _∷_, _++_, append-assoc, append-nil}
 use native.Mathlib.Nat.{zero-add}
 use native.Mathlib.Numerals.{add-one}
 use native.Mathlib.Omega.{arith}
 use lib.Dec.{T}
 use lib.ListN.{length, getD, set, take, drop, length-append, length-take, length-drop, length-set, take-append-drop}
-use lib.Seq.{length-take-le, append-snoc, take-at, drop-at, drop-drop, set-split}
+use lib.Seq.{length-take-le, take-all, drop-cons, append-snoc, take-at, drop-at, drop-drop, set-split}
 use Rattle.meaning.specs.declared.Link.{Link}
+use Rattle.weighing.specs.Records.{noLink}
 use Rattle.cutting.specs.Record.{entrySize}
 use Rattle.texts.specs.Lines.{Line, linesOf}
 use Rattle.texts.specs.Reader.{linkIn, entryIn, linksIn, entriesIn}
 use Rattle.texts.specs.Walk.{byteAt, sizeAt, Well}
 use Rattle.texts.specs.Judging.{allWell}
-use Rattle.texts.specs.Storing.{Skipped, payloadAt, linkAt}
+use Rattle.texts.specs.Storing.{Skipped, payloadAt, linkAt, LinkAhead, LinkPast, Storable}
 use Rattle.texts.proofs.Lines.{front}
 use Rattle.texts.proofs.Judging.{rest, rest-at}
 use Rattle.texts.proofs.ReadsText.{links-front, link-front, entries-front}
@@ -32,12 +34,15 @@ pub record Putting {A : Type 0} (all held old room : List A) (done : ℕ) : Type
 pub putting-none : {A : Type 0} (all old : List A) → length all ≤ length old → Putting all all old old 0
 putting-none all old h = record { same-size = refl; fits = omega arith; put-so = refl; kept = refl }
 
-pub putting-all : {A : Type 0} (all held old room : List A) (done : ℕ) → Putting all held old room done → length held ≡ 0 → room ≡ all ++ drop (length all) old
-putting-all {A} all held old room done p e =
+pub putting-all : {A : Type 0} (all held old room : List A) (done count : ℕ) → Putting all held old room done → length held ≡ 0 → done ≡ count
+    → room ≡ take count all ++ drop count old
+putting-all {A} all held old room done count p e c =
     let none : held ≡ [] = empty held e in
     let q : take done room ≡ all = sym (append-nil (take done room)) ∙ ap (λ (l : List A). take done room ++ l) (sym none) ∙ p .put-so in
-    let n : done ≡ length all = sym (length-take-le done room (omega (arith, p .fits, p .same-size))) ∙ ap length q in
-    sym (take-append-drop done room) ∙ ap₂ _++_ q (p .kept ∙ ap (λ (m : ℕ). drop m old) n)
+    let n : length all ≡ done = sym (ap length q) ∙ length-take-le done room (omega (arith, p .fits, p .same-size)) in
+    sym (take-append-drop done room)
+    ∙ ap₂ _++_ (q ∙ sym (take-all done all (omega (arith, n)))) (p .kept)
+    ∙ ap (λ (m : ℕ). take m all ++ drop m old) c
   where
     empty : (l : List A) → length l ≡ 0 → l ≡ []
     empty [] e = refl
@@ -134,44 +139,51 @@ module _ (text : List ℕ) (at p : ℕ) (s : Skipped text at 3 p) (more : 0 < le
       ∙ entries-front (drop p text) cut-well cut-kind
       ∙ ap₂ (λ (l : List ℕ) (ls : List Line). l ++ entriesIn ls) (entry-payload (drop p text) cut-well cut-kind) (rest-at text p next e)
 
+-- from a place on: the next link, and the place behind it
+pub link-told : (text : List ℕ) (at p : ℕ) → LinkAhead text at → Skipped text at 2 p → linkAt (drop p text) ≡ getD (linksIn (linesOf (drop at text))) 0 noLink
+link-told text at p h s = sym (ap (λ (l : List Link). getD l 0 noLink) (link-next text at p s (h .some) (p + 2 * sizeAt (drop p text) + 1) refl))
+
+pub link-passed : (text : List ℕ) (at p next : ℕ) → LinkAhead text at → Skipped text at 2 p → next ≡ p + 2 * sizeAt (drop p text) + 1 → LinkPast text at next
+link-passed text at p next h s e =
+    let behind = skipped-rest text at 2 p s (link-lines text at p s (h .some)) next e in
+    record { within = behind .0; well = behind .1; links = sym (ap (drop 1) (link-next text at p s (h .some) next e)) }
+
 -- storing links: the start, one more, the end
-pub links-start : (text : List ℕ) (old : List Link) (count : ℕ) → T (allWell (linesOf text)) → length (linksIn (linesOf text)) ≡ count → count ≤ length old
-    → StoringLinks text old old count 0 0
-links-start text old count t e h =
-    record { within = omega arith; well = t; total = omega arith; putting = putting-none (linksIn (linesOf text)) old (omega arith) }
+pub links-start : (text : List ℕ) (old : List Link) (count : ℕ) → Storable text count (length (linksIn (linesOf text))) (length old) → 0 < count → StoringLinks text old old count 0 0
+links-start text old count st h =
+    let w = st .whole h in
+    record { within = omega arith; well = w .0; total = omega (arith, w .1); putting = putting-none (linksIn (linesOf text)) old (omega (arith, w .1, st .fits)) }
 
 module _ (text : List ℕ) (old room : List Link) (count at done : ℕ) (g : StoringLinks text old room count at done) where
-  pub links-left : done < count → 0 < length (linksIn (linesOf (drop at text)))
-  links-left h = omega (arith, g .total)
+  pub links-ahead : done < count → LinkAhead text at
+  links-ahead h = record { within = g .within; well = g .well; some = omega (arith, g .total) }
 
-  pub links-more : done < count → (p : ℕ) → Skipped text at 2 p → (next : ℕ) → next ≡ p + 2 * sizeAt (drop p text) + 1 → (room′ : List Link)
-      → room′ ≡ set room done (linkAt (drop p text)) → StoringLinks text old room′ count next (done + 1)
-  links-more h p s next e room′ r =
-      let left = links-left h in
-      let taken = link-next text at p s left next e in
-      let behind = skipped-rest text at 2 p s (link-lines text at p s left) next e in
+  pub links-more : done < count → (next : ℕ) → LinkPast text at next → StoringLinks text old (set room done (getD (linksIn (linesOf (drop at text))) 0 noLink)) count next (done + 1)
+  links-more h next past =
+      let held = linksIn (linesOf (drop at text)) in
+      let l = getD held 0 noLink in
+      let taken : held ≡ (l ∷ []) ++ linksIn (linesOf (drop next text))
+      = drop-cons held 0 noLink (omega (arith, g .total)) ∙ ap (λ (ls : List Link). l ∷ ls) (sym (past .links)) in
       let i : done < length room = omega (arith, g .total, g .putting .fits, g .putting .same-size) in
       record {
-        within = behind .0;
-        well = behind .1;
+        within = past .within;
+        well = past .well;
         total = omega (arith, g .total, ap length taken);
         putting =
-            putting-more (linksIn (linesOf text)) (linksIn (linesOf (drop at text))) (linksIn (linesOf (drop next text))) old room room′ (linkAt (drop p text) ∷ []) done (done + 1)
-            (g .putting) taken refl
-            (r
-            ∙ set-split room done (linkAt (drop p text)) i
-            ∙ sym (append-snoc (take done room) (linkAt (drop p text)) (drop (suc done) room))
-            ∙ ap (λ (n : ℕ). take done room ++ (linkAt (drop p text) ∷ []) ++ drop n room) (sym (add-one done)));
+            putting-more (linksIn (linesOf text)) held (linksIn (linesOf (drop next text))) old room (set room done l) (l ∷ []) done (done + 1) (g .putting) taken refl
+            (set-split room done l i
+            ∙ sym (append-snoc (take done room) l (drop (suc done) room))
+            ∙ ap (λ (n : ℕ). take done room ++ (l ∷ []) ++ drop n room) (sym (add-one done)));
       }
 
-  pub links-end : count ≤ done → room ≡ linksIn (linesOf text) ++ drop (length (linksIn (linesOf text))) old
-  links-end h = putting-all (linksIn (linesOf text)) (linksIn (linesOf (drop at text))) old room done (g .putting) (omega (arith, g .total))
+  pub links-end : count ≤ done → room ≡ take count (linksIn (linesOf text)) ++ drop count old
+  links-end h = putting-all (linksIn (linesOf text)) (linksIn (linesOf (drop at text))) old room done count (g .putting) (omega (arith, g .total)) (omega (arith, g .total))
 
 -- storing entries: the start, one more, the end
-pub cuts-start : (text old : List ℕ) (cuts : ℕ) → T (allWell (linesOf text)) → length (entriesIn (linesOf text)) ≡ cuts * 21 → cuts * 21 ≤ length old
-    → StoringCuts text old old cuts 0 0
-cuts-start text old cuts t e h =
-    record { within = omega arith; well = t; total = omega arith; putting = putting-none (entriesIn (linesOf text)) old (omega arith) }
+pub cuts-start : (text old : List ℕ) (cuts : ℕ) → Storable text (cuts * 21) (length (entriesIn (linesOf text))) (length old) → 0 < cuts → StoringCuts text old old cuts 0 0
+cuts-start text old cuts st h =
+    let w = st .whole (omega arith) in
+    record { within = omega arith; well = w .0; total = omega (arith, w .1); putting = putting-none (entriesIn (linesOf text)) old (omega (arith, w .1, st .fits)) }
 
 module _ (text old room : List ℕ) (cuts at done : ℕ) (g : StoringCuts text old room cuts at done) where
   pub cuts-left : done < cuts → 0 < length (entriesIn (linesOf (drop at text)))
@@ -197,5 +209,42 @@ module _ (text old room : List ℕ) (cuts at done : ℕ) (g : StoringCuts text o
             (r ∙ ap (λ (m : ℕ). take (done * 21) room ++ payloadAt (drop p text) 21 ++ drop m room) (sym n));
       }
 
-  pub cuts-end : cuts ≤ done → room ≡ entriesIn (linesOf text) ++ drop (length (entriesIn (linesOf text))) old
-  cuts-end h = putting-all (entriesIn (linesOf text)) (entriesIn (linesOf (drop at text))) old room (done * 21) (g .putting) (omega (arith, g .total))
+  pub cuts-end : cuts ≤ done → room ≡ take (cuts * 21) (entriesIn (linesOf text)) ++ drop (cuts * 21) old
+  cuts-end h = putting-all (entriesIn (linesOf text)) (entriesIn (linesOf (drop at text))) old room (done * 21) (cuts * 21) (g .putting) (omega (arith, g .total)) (omega (arith, g .total))
+
+-- storing, also where nothing is to be stored: then the room is as it was
+pub record CutsSoFar (text old room : List ℕ) (cuts at done : ℕ) : Type 0 where
+  pub some : 0 < cuts → StoringCuts text old room cuts at done
+  pub none : cuts ≡ 0 → room ≡ old
+
+pub record LinksSoFar (text : List ℕ) (old room : List Link) (count at done : ℕ) : Type 0 where
+  pub some : 0 < count → StoringLinks text old room count at done
+  pub none : count ≡ 0 → room ≡ old
+
+none-or-some : (n : ℕ) → (n ≡ 0) ⊎ (0 < n)
+none-or-some zero = inl refl
+none-or-some (suc n) = inr (omega arith)
+
+pub cuts-stored : (text old room : List ℕ) (cuts at done : ℕ) → CutsSoFar text old room cuts at done → cuts ≤ done
+    → room ≡ take (cuts * 21) (entriesIn (linesOf text)) ++ drop (cuts * 21) old
+cuts-stored text old room cuts at done g h =
+    ⊎-elim
+    (λ e.
+    let z : 0 ≡ cuts * 21 = omega arith in
+    g .none e ∙ ap (λ (m : ℕ). take m (entriesIn (linesOf text)) ++ drop m old) z)
+    (λ l. cuts-end text old room cuts at done (g .some l) h)
+    (none-or-some cuts)
+
+pub cuts-same-size : (text old room : List ℕ) (cuts at done : ℕ) → CutsSoFar text old room cuts at done → length room ≡ length old
+cuts-same-size text old room cuts at done g = ⊎-elim (λ e. ap length (g .none e)) (λ l. g .some l .putting .same-size) (none-or-some cuts)
+
+pub links-stored : (text : List ℕ) (old room : List Link) (count at done : ℕ) → LinksSoFar text old room count at done → count ≤ done
+    → room ≡ take count (linksIn (linesOf text)) ++ drop count old
+links-stored text old room count at done g h =
+    ⊎-elim
+    (λ e. g .none e ∙ ap (λ (m : ℕ). take m (linksIn (linesOf text)) ++ drop m old) (sym e))
+    (λ l. links-end text old room count at done (g .some l) h)
+    (none-or-some count)
+
+pub links-same-size : (text : List ℕ) (old room : List Link) (count at done : ℕ) → LinksSoFar text old room count at done → length room ≡ length old
+links-same-size text old room count at done g = ⊎-elim (λ e. ap length (g .none e)) (λ l. g .some l .putting .same-size) (none-or-some count)
