@@ -248,3 +248,17 @@ links-stored text old room count at done g h =
 
 pub links-same-size : (text : List ℕ) (old room : List Link) (count at done : ℕ) → LinksSoFar text old room count at done → length room ≡ length old
 links-same-size text old room count at done g = ⊎-elim (λ e. ap length (g .none e)) (λ l. g .some l .putting .same-size) (none-or-some count)
+
+pub links-first : (text : List ℕ) (old : List Link) (count : ℕ) → Storable text count (length (linksIn (linesOf text))) (length old) → LinksSoFar text old old count 0 0
+links-first text old count st = record { some = links-start text old count st; none = λ e. refl }
+
+module _ (text : List ℕ) (old room : List Link) (count at done : ℕ) (g : LinksSoFar text old room count at done) (less : done < count) where
+  pub links-here : LinkAhead text at
+  links-here = links-ahead text old room count at done (g .some (omega arith)) less
+
+  pub links-on : (l : Link) → l ≡ getD (linksIn (linesOf (drop at text))) 0 noLink → (next : ℕ) → LinkPast text at next → LinksSoFar text old (set room done l) count next (done + 1)
+  links-on l e next past =
+      record {
+        some = λ h. subst (λ (x : Link). StoringLinks text old (set room done x) count next (done + 1)) (sym e) (links-more text old room count at done (g .some h) less next past);
+        none = λ z. absurd (omega arith);
+      }

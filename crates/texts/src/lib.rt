@@ -2,6 +2,7 @@
 
 mod frame;
 mod judge;
+pub mod reader;
 mod stage;
 mod store;
 
