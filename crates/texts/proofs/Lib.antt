@@ -9,3 +9,4 @@ pub mod Advances
 pub mod ReadsRows
 pub mod ReadsStore
 pub mod ReadsPut
+pub mod ReadsAll

@@ -46,7 +46,7 @@ first-accepted (Refused a b ∷ js) ks e = absurd (omega (arith, never e))
     never e = cc
 
 -- where the first row and those behind it are accepted
-accepted-row : (b : Bool) (number place : ℕ) (js : List Judged) → first (refuse b number place ∷ js) ≡ Accepted → T (not b) × (first js ≡ Accepted)
+pub accepted-row : (b : Bool) (number place : ℕ) (js : List Judged) → first (refuse b number place ∷ js) ≡ Accepted → T (not b) × (first js ≡ Accepted)
 unfolding first refuse
 accepted-row true number place js e = absurd (omega (arith, never e))
   where
@@ -130,7 +130,7 @@ pub by-15 : (text : List ℕ) (lent room : ℕ) → 65536 < length text → Refu
 unfolding readerRows read
 by-15 text lent room h = sym (ap (λ (j : Judged). read j (linesOf text)) (row-applies (ltb 65536 (length text)) 15 0 _ (lt→ltb 65536 (length text) h)))
 
-abbrev counts : List Line → ℕ → ℕ → List Judged
+abbrev pub counts : List Line → ℕ → ℕ → List Judged
 counts ls lent room =
     refuse (ltb 4096 (length (linksIn ls))) 3 0
     ∷ refuse (ltb (entrySize * 127) (length (entriesIn ls))) 9 0
