@@ -10,3 +10,4 @@ pub mod ReadsRows
 pub mod ReadsStore
 pub mod ReadsPut
 pub mod ReadsAll
+pub mod ReadsRow

@@ -5,14 +5,13 @@ ghost use lib.ListN.{length, take, drop};
 ghost use Rattle.texts.specs.Lines.{linesOf};
 ghost use Rattle.texts.specs.Reader.{linksIn, Reads};
 ghost use Rattle.texts.specs.Storing.{Storable};
-
+use crate::Reading;
 use crate::judge::judge;
 use crate::store::cuts_of;
 use crate::store::link_line;
 use crate::store::link_past;
 use crate::store::links_of;
 use crate::store::store_entries;
-use crate::Reading;
 use meaning::Link;
 use weighing::records::store_link;
 
