@@ -1,0 +1,2 @@
+-- The laws about frames and lines.
+pub mod Frames
