@@ -1,2 +1,3 @@
 -- The laws about frames and lines.
 pub mod Frames
+pub mod Lines

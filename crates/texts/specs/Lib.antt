@@ -2,4 +2,5 @@
 pub mod Frame
 pub mod Lines
 pub mod Reader
+pub mod Walk
 pub mod Writers

@@ -1,0 +1,27 @@
+-- What the reader's parts promise each other: the frame at the front of what is left of a text.
+use Prim.Native.Nat.{ℕ, _+_, _*_, _<_}
+use mathlib.Core.Path.{_≡_}
+use mathlib.Core.List.{List}
+use mathlib.Core.Bool.{Bool, _&&_}
+use lib.Dec.{T, ltb}
+use lib.ListN.{length, getD, take}
+use Rattle.texts.specs.Frame.{payloads, isKind, valueOf, isHex}
+
+-- the byte that the i-th pair of characters means
+unfoldable pub byteAt : List ℕ → ℕ → ℕ
+byteAt cs i = valueOf (getD cs (2 * i) 0) * 16 + valueOf (getD cs (2 * i + 1) 0)
+
+-- whether that pair is of digits
+unfoldable pub digitsAt : List ℕ → ℕ → Bool
+digitsAt cs i = ltb (valueOf (getD cs (2 * i) 0)) 16 && ltb (valueOf (getD cs (2 * i + 1) 0)) 16
+
+-- how many bytes the frame at the front has, by its kind
+unfoldable pub sizeAt : List ℕ → ℕ
+sizeAt cs = getD payloads (byteAt cs 0) 0 + 2
+
+-- a well formed line stands at the front: a kind that there is, as many pairs of digits as it has bytes, and a line feed
+pub record Well (cs : List ℕ) : Type 0 where
+  pub kind : T (isKind (byteAt cs 0))
+  pub digits : T (isHex (take (2 * sizeAt cs) cs))
+  pub room : 2 * sizeAt cs < length cs
+  pub feed : getD cs (2 * sizeAt cs) 0 ≡ 10
