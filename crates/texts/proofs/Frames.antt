@@ -13,6 +13,7 @@ use lib.ListN.{length, getD, take, drop, length-append, drop-of-length-le}
 use lib.Seq.{split-at}
 use Rattle.meaning.proofs.Tests.{eq→eqb, both, left-of, right-of, decide, is-true, is-false, holds}
 use Rattle.texts.specs.Frame.{payloads, isKind, byteSum, sumByte, digit, valueOf, hex, isHex, bytesOf, line, wellFormed}
+use Rattle.texts.specs.Walk.{pairOf}
 
 -- a run of bytes: each is below 256 (past the end, nought stands)
 abbrev pub Bytes : List ℕ → Type 0
@@ -47,6 +48,10 @@ value-high c a b =
     let l : 48 ≤ c = omega arith in
     simp (le-leb _ _ l, lt-leb _ _ h, le-leb _ _ a, le-leb _ _ b)
 
+pub value-none : (c : ℕ) → (48 ≤ c → c ≤ 57 → ⊥) → (97 ≤ c → c ≤ 102 → ⊥) → valueOf c ≡ 16
+value-none c f g =
+    ⊎-elim (λ w. absurd (f (w .0) (w .1))) (λ w. ⊎-elim (λ v. absurd (g (v .0) (v .1))) (λ v. v) w) (value-cases c)
+
 pub value-bound : (c : ℕ) → valueOf c ≤ 16
 value-bound c = ⊎-elim (λ w. omega arith) (λ w. ⊎-elim (λ v. omega arith) (λ v. omega arith) w) (value-cases c)
 
@@ -73,6 +78,19 @@ digit-value c h =
     (λ w. digit-low (valueOf c) (omega arith) ∙ omega arith)
     (λ w. ⊎-elim (λ v. digit-high (valueOf c) (omega arith) ∙ omega arith) (λ v. absurd (omega arith)) w)
     (value-cases c)
+
+-- two characters as a pair
+pub pair-digits : (c d : ℕ) → valueOf c < 16 → valueOf d < 16 → pairOf c d ≡ valueOf c * 16 + valueOf d
+unfolding pairOf
+pair-digits c d x y = simp (lt-ltb _ _ x, lt-ltb _ _ y)
+
+pub pair-none : (c d : ℕ) → (valueOf c < 16 → valueOf d < 16 → ⊥) → pairOf c d ≡ 256
+unfolding pairOf
+pair-none c d f =
+    ⊎-elim
+    (λ w. absurd (f (ltb→lt (valueOf c) 16 (left-of (ltb (valueOf c) 16) (ltb (valueOf d) 16) (w .0))) (ltb→lt (valueOf d) 16 (right-of (ltb (valueOf c) 16) (ltb (valueOf d) 16) (w .0)))))
+    (λ w. w .1)
+    (chosen (ltb (valueOf c) 16 && ltb (valueOf d) 16) (valueOf c * 16 + valueOf d) 256)
 
 -- bytes to digits and back
 pub bytesOf-hex : (bs : List ℕ) → Bytes bs → bytesOf (hex bs) ≡ bs

@@ -2,10 +2,14 @@
 use Prim.Native.Nat.{ℕ, _+_, _*_, _<_}
 use mathlib.Core.Path.{_≡_}
 use mathlib.Core.List.{List}
-use mathlib.Core.Bool.{Bool, _&&_}
+use mathlib.Core.Bool.{Bool, cond, _&&_}
 use lib.Dec.{T, ltb}
 use lib.ListN.{length, getD, take}
 use Rattle.texts.specs.Frame.{payloads, isKind, valueOf, isHex}
+
+-- the byte that two characters mean, 256 where they are not both digits
+unfoldable pub pairOf : ℕ → ℕ → ℕ
+pairOf c d = cond (ltb (valueOf c) 16 && ltb (valueOf d) 16) (valueOf c * 16 + valueOf d) 256
 
 -- the byte that the i-th pair of characters means
 unfoldable pub byteAt : List ℕ → ℕ → ℕ
