@@ -1,3 +1,4 @@
--- The laws about frames and lines.
+-- The laws about frames and lines, and about writing them.
 pub mod Frames
 pub mod Lines
+pub mod Writes

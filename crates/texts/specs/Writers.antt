@@ -23,6 +23,10 @@ use Rattle.texts.specs.Reader.{put}
 unfoldable pub two : ℕ → List ℕ
 two m = m / 256 ∷ m % 256 ∷ []
 
+-- lent room after a text was written at a place of it; the rest as it was
+unfoldable pub over : List ℕ → ℕ → List ℕ → List ℕ
+over room at text = take at room ++ text ++ drop (at + length text) room
+
 -- 01 head, 02 links, 03 cuts, 04 labels of bones 0 to n − 1, 06 close, 07 refusal
 unfoldable pub headLine : ℕ → ℕ → List ℕ
 headLine n k = line 1 (n ∷ two k)
