@@ -2,3 +2,4 @@
 pub mod Frames
 pub mod Lines
 pub mod Writes
+pub mod WritesLines

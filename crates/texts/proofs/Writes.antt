@@ -78,10 +78,12 @@ negated bs s b e h z = omega (arith, sum-bound bs)
 pub length-line : (kind : ℕ) (payload : List ℕ) → length (line kind payload) ≡ 2 * length payload + 5
 unfolding line
 length-line kind payload =
-    omega (arith
-    , length-append (hex (whole kind payload)) (10 ∷ [])
-    , length-hex (whole kind payload)
-    , whole-length kind payload)
+    omega (
+      arith,
+      length-append (hex (whole kind payload)) (10 ∷ []),
+      length-hex (whole kind payload),
+      whole-length kind payload,
+    )
 
 module _ (room : List ℕ) (at kind : ℕ) (payload : List ℕ) (h : at + (2 * length payload + 5) ≤ length room) where
   pub line-made : (r s t : List ℕ)
@@ -95,9 +97,16 @@ module _ (room : List ℕ) (at kind : ℕ) (payload : List ℕ) (h : at + (2 * l
       let l₂ : length (hex (whole kind payload)) ≡ 2 * length payload + 4 = omega (arith, length-hex (whole kind payload), whole-length kind payload) in
       let f′ : s ≡ over room at (hex (kind ∷ payload)) = f ∙ onto room at (hex (kind ∷ [])) (hex payload) r (at + 2) e (omega arith) (omega arith) in
       let g′ : t ≡ over room at (hex (whole kind payload))
-             = g
-               ∙ onto room at (hex (kind ∷ payload)) (hex (sumByte (kind ∷ payload) ∷ [])) s (at + 2 + 2 * length payload) f′ (omega arith) (omega arith)
-               ∙ ap (over room at) (sym (hex-append (kind ∷ payload) (sumByte (kind ∷ payload) ∷ []))) in
+      = g
+      ∙ onto room at (hex (kind ∷ payload)) (hex (sumByte (kind ∷ payload) ∷ [])) s (at + 2 + 2 * length payload) f′ (omega arith) (omega arith)
+      ∙ ap (over room at) (sym (hex-append (kind ∷ payload) (sumByte (kind ∷ payload) ∷ []))) in
       let long : length t ≡ length room = ap length g′ ∙ length-over room at (hex (whole kind payload)) (omega arith) in
       over-one t (at + 2 + 2 * length payload + 2) 10 (omega arith)
       ∙ onto room at (hex (whole kind payload)) (10 ∷ []) t (at + 2 + 2 * length payload + 2) g′ (omega arith) (omega arith)
+
+-- a line whose payload is known by other words
+pub line-told : (room room′ : List ℕ) (at r kind : ℕ) (p q : List ℕ) → p ≡ q
+    → (r ≡ at + length (line kind p)) × (room′ ≡ over room at (line kind p))
+    → (r ≡ at + (2 * length q + 5)) × (room′ ≡ over room at (line kind q))
+line-told room room′ at r kind p q e w =
+    (w .0 ∙ ap (λ (l : List ℕ). at + length (line kind l)) e ∙ ap (λ (m : ℕ). at + m) (length-line kind q), w .1 ∙ ap (λ (l : List ℕ). over room at (line kind l)) e)

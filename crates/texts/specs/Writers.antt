@@ -31,17 +31,23 @@ over room at text = take at room ++ text ++ drop (at + length text) room
 unfoldable pub headLine : ℕ → ℕ → List ℕ
 headLine n k = line 1 (n ∷ two k)
 
+unfoldable pub linkLine : Link → List ℕ
+linkLine l = line 2 (l .a ∷ l .b ∷ two (l .tally))
+
 unfoldable pub linkLines : List Link → List ℕ
 linkLines [] = []
-linkLines (l ∷ ls) = line 2 (l .a ∷ l .b ∷ two (l .tally)) ++ linkLines ls
+linkLines (l ∷ ls) = linkLine l ++ linkLines ls
 
 unfoldable pub cutLines : ℕ → List ℕ → List ℕ
 cutLines zero bytes = []
 cutLines (suc m) bytes = line 3 (take entrySize bytes) ++ cutLines m (drop entrySize bytes)
 
+unfoldable pub labelLine : ℕ → ℕ → List ℕ
+labelLine bone name = line 4 (bone ∷ name ∷ [])
+
 unfoldable pub labelLines : ℕ → Heap → List ℕ
 labelLines zero h = []
-labelLines (suc n) h = labelLines n h ++ line 4 (n ∷ h n ∷ [])
+labelLines (suc n) h = labelLines n h ++ labelLine n (h n)
 
 unfoldable pub closeLine : ℕ → List ℕ
 closeLine frames = line 6 (two frames)

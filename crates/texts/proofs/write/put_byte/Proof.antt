@@ -1,3 +1,4 @@
+-- `write::put_byte` meets its contract. Assumes nothing.
 use borrow.Author.Needs.{needs}
 use native.Mathlib.Omega.{arith}
 use lib.ListN.{set, length-set}
@@ -7,35 +8,25 @@ use Rattle.texts.specs.Frame.{hex}
 use Rattle.texts.proofs.Writes.{over-two}
 use Rattle.texts.proofs.write.put_byte.Statement.{statement}
 use Rattle.texts.proofs.write.put_byte.Tie as tie
-use Rattle.texts.proofs.write.put_byte.Reads as reads
-use Rattle.texts.proofs.write.put_byte.Lts as lts
-use Rattle.texts.proofs.write.digit_of.Reads as digit-of-reads
 
--- src/write.rt:22:16
 digit-of-requires : tie.Need-digit-of-requires
 digit-of-requires c κs = search needs
 
--- src/write.rt:22:5
 slice-write-room : tie.Need-slice-write-room
 slice-write-room c = search needs
 
--- src/write.rt:23:20
 digit-of-requires-2 : tie.Need-digit-of-requires-2
 digit-of-requires-2 c κs = search needs
 
--- src/write.rt:23:10
 add-room : tie.Need-add-room
 add-room c = search needs
 
--- src/write.rt:23:5
 slice-write-room-2 : tie.Need-slice-write-room-2
 slice-write-room-2 c = simp length-set (omega arith)
 
--- src/write.rt:18:1
 same-length : tie.Need-same-length
 same-length c = search needs
 
--- src/write.rt:18:1
 returns : tie.Need-returns
 unfolding hex
 returns c =

@@ -13,10 +13,6 @@ use Rattle.texts.proofs.Frames.{sum-snoc}
 use Rattle.texts.proofs.Writes.{over-nil, length-over, next-hex, next-sum}
 use Rattle.texts.proofs.write.put_bytes.Statement.{statement}
 use Rattle.texts.proofs.write.put_bytes.Tie as tie
-use Rattle.texts.proofs.write.put_bytes.Reads as reads
-use Rattle.texts.proofs.write.put_bytes.Lts as lts
-use Rattle.std.proofs.num.wrapping_add_u8.Reads as wrapping-add-u8-reads
-use Rattle.texts.proofs.write.put_byte.Reads as put-byte-reads
 
 abbrev Inv-loop : tie.InvT-loop
 Inv-loop room₀ at first bytes sum₀ i₀ room sum i =
@@ -28,62 +24,51 @@ Inv-loop room₀ at first bytes sum₀ i₀ room sum i =
 abbrev μ-loop : tie.MeasureT-loop
 μ-loop room₀ at first bytes sum₀ i₀ room sum i = length bytes - i
 
--- src/write.rt:33:5
 loop-holds : tie.Need-loop-holds Inv-loop μ-loop
 unfolding byteSum hex
 loop-holds c =
     let a = c .before .before .args in
     (omega arith, refl, omega (arith, c .before .before .fits .first .fits), sym (over-nil (a .room .now) (a .at)))
 
--- src/write.rt:34:17
 shared-slice-read-b : tie.Need-shared-slice-read-b Inv-loop μ-loop
 shared-slice-read-b c = omega arith
 
--- src/write.rt:35:29
 mul-put-byte : tie.Need-mul-put-byte Inv-loop μ-loop
 mul-put-byte c = omega arith
 
--- src/write.rt:35:24
 add-put-byte : tie.Need-add-put-byte Inv-loop μ-loop
 add-put-byte c = omega arith
 
--- src/write.rt:35:9
 put-byte-requires : tie.Need-put-byte-requires Inv-loop μ-loop
 put-byte-requires c κs = search needs
 
--- src/write.rt:36:9
 wrapping-add-u8-requires : tie.Need-wrapping-add-u8-requires Inv-loop μ-loop
 wrapping-add-u8-requires c κs = search needs
 
--- src/write.rt:37:9
 add-i : tie.Need-add-i Inv-loop μ-loop
 add-i c = omega arith
 
--- src/write.rt:33:5
 loop-less : tie.Need-loop-less Inv-loop μ-loop
 loop-less c = omega arith
 
--- src/write.rt:33:5
 loop-again : tie.Need-loop-again Inv-loop μ-loop
 loop-again c =
     let at-loop = c .before .before .before .before .before .before .before in
     let a = at-loop .before .before .before .args in
     let i = at-loop .loop .i in
     let inv = at-loop .loop .inv in
-    let below : i < length (a .bytes .now) = omega arith in
-    ( omega arith
-    , c .before .before .before .put-byte .kept .0 ∙ inv .1
-    , c .wrapping-add-u8 .ensures ∙ ap (λ (s : ℕ). (s + getD (a .bytes .now) i 0) % 256) (inv .2) ∙ next-sum (a .bytes .now) i below (a .first)
-    , c .before .before .before .put-byte .ensures
-      ∙ ap (λ (r : List ℕ). over r (a .at + 2 * i) (hex (getD (a .bytes .now) i 0 ∷ []))) (inv .3)
-      ∙ next-hex (a .bytes .now) i below (a .room .now) (a .at) (at-loop .before .before .before .pre)
+    let below : i < length (a .bytes .now) = omega arith in (
+      omega arith,
+      c .before .before .before .put-byte .kept .0 ∙ inv .1,
+      c .wrapping-add-u8 .ensures ∙ ap (λ (s : ℕ). (s + getD (a .bytes .now) i 0) % 256) (inv .2) ∙ next-sum (a .bytes .now) i below (a .first),
+      c .before .before .before .put-byte .ensures
+          ∙ ap (λ (r : List ℕ). over r (a .at + 2 * i) (hex (getD (a .bytes .now) i 0 ∷ []))) (inv .3)
+          ∙ next-hex (a .bytes .now) i below (a .room .now) (a .at) (at-loop .before .before .before .pre),
     )
 
--- src/write.rt:27:1
 same-length : tie.Need-same-length Inv-loop μ-loop
 same-length c = omega arith
 
--- src/write.rt:27:1
 returns : tie.Need-returns Inv-loop μ-loop
 returns c =
     let a = c .before .before .before .before .args in
