@@ -3,3 +3,4 @@ pub mod Frames
 pub mod Lines
 pub mod Writes
 pub mod WritesLines
+pub mod WritesTexts

@@ -1,5 +1,5 @@
 -- What the writers write: an input text, a result text, and the frame of a refusal.
-use Prim.Native.Nat.{ℕ, zero, suc, _+_, _*_, _/_, _%_}
+use Prim.Native.Nat.{ℕ, zero, suc, _+_, _*_, _/_, _%_, _≤_, _<_}
 use mathlib.Core.Path.{_≡_}
 use mathlib.Core.Bool.{Bool, true, false}
 use mathlib.Core.List.{List, [], _∷_, _++_}
@@ -12,6 +12,7 @@ use Rattle.meaning.specs.Judge.{refuse, first}
 use Rattle.meaning.specs.Tally.{pairTally}
 use Rattle.meaning.specs.Heap.{Heap, start, left}
 use Rattle.weighing.specs.Links.{tableRows}
+use Rattle.weighing.specs.Side.{heapOf}
 use Rattle.cutting.specs.Record.{entrySize, cutsOf}
 use Rattle.cutting.specs.Rows.{recordRow, entriesRows}
 use Rattle.texts.specs.declared.Written.{Written}
@@ -86,3 +87,10 @@ wrote (Refused number place) count = Refused·written number place
 pub record Writes (rows : Judged) (text room room′ : List ℕ) (r : Written) : Type 0 where
   pub answer : r ≡ wrote rows (length text)
   pub text-left : room′ ≡ put rows text room
+
+-- what the result writer has found when rows 1 to 13 are passed: numbers in range, and the names that the record's cuts leave
+pub record Named (n k : ℕ) (bytes names : List ℕ) : Type 0 where
+  pub bones : n ≤ 128
+  pub threshold : k < 65536
+  pub cuts : length bytes / entrySize ≤ 127
+  pub names-of : (b : ℕ) → b < n → heapOf names b ≡ left n start (cutsOf bytes) b

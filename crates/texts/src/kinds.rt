@@ -9,7 +9,7 @@ ghost use Rattle.cutting.specs.Record.{entrySize};
 ghost use Rattle.texts.specs.Writers.{over, headLine, linkLine, cutLines, labelLine, labelLines, closeLine, refusalLine};
 
 // The bytes of one entry.
-const ENTRY: usize = 21;
+pub(crate) const ENTRY: usize = 21;
 
 // The two bytes of a number.
 fn high(m: u64) -> u8

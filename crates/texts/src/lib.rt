@@ -1,6 +1,8 @@
 // Texts: frames in lines of hexadecimal, the reader, and the two writers.
 mod frame;
 mod kinds;
+pub mod refusal;
+mod result;
 mod write;
 
 // What the reader answers: a refusal of the table with its place, or the head's two numbers and how many links and cuts were read.
