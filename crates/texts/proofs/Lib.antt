@@ -4,3 +4,5 @@ pub mod Lines
 pub mod Writes
 pub mod WritesLines
 pub mod WritesTexts
+pub mod RoundTripLines
+pub mod RoundTripWritten

@@ -1,9 +1,9 @@
 -- What the writers write: an input text, a result text, and the frame of a refusal.
 use Prim.Native.Nat.{ℕ, zero, suc, _+_, _*_, _/_, _%_, _≤_, _<_}
 use mathlib.Core.Path.{_≡_}
-use mathlib.Core.Bool.{Bool, true, false}
+use mathlib.Core.Bool.{Bool, true, false, not, _&&_}
 use mathlib.Core.List.{List, [], _∷_, _++_}
-use lib.Dec.{ltb}
+use lib.Dec.{eqb, ltb}
 use lib.ListN.{length, take, drop}
 use Rattle.meaning.specs.declared.Link.{Link}
 use Rattle.meaning.specs.declared.Judged.{Judged}
@@ -18,6 +18,7 @@ use Rattle.cutting.specs.Rows.{recordRow, entriesRows}
 use Rattle.texts.specs.declared.Written.{Written}
 use Rattle.texts.specs.declared.Written.the-variants.{Bytes, Refused as Refused·written}
 use Rattle.texts.specs.Frame.{line}
+use Rattle.texts.specs.Lines.{Line, kind}
 use Rattle.texts.specs.Reader.{put}
 
 -- a number in two bytes, high byte first
@@ -65,6 +66,11 @@ inputText n k links bytes =
 unfoldable pub resultText : ℕ → ℕ → List ℕ → List ℕ
 resultText n k bytes =
     headLine n k ++ cutLines (length bytes / entrySize) bytes ++ labelLines n (left n start (cutsOf bytes)) ++ closeLine (1 + length bytes / entrySize + n)
+
+-- whether a text has no notes, of which the input writer writes none
+unfoldable pub unnoted : List Line → Bool
+unnoted [] = true
+unnoted (l ∷ ls) = not (eqb (kind l) 5) && unnoted ls
 
 -- what each writer tries: 1 to 6, 9 (and 10 to 13), 20
 unfoldable pub inputRows : ℕ → ℕ → List Link → List ℕ → ℕ → List Judged
