@@ -6,3 +6,4 @@ pub mod WritesLines
 pub mod WritesTexts
 pub mod RoundTripLines
 pub mod RoundTripWritten
+pub mod RoundTripRead
