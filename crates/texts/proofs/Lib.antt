@@ -7,3 +7,5 @@ pub mod WritesTexts
 pub mod RoundTripLines
 pub mod RoundTripWritten
 pub mod RoundTripRead
+pub mod RoundTripCalls
+pub mod Texts

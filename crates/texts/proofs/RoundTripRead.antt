@@ -42,7 +42,7 @@ joined-lines (c ∷ cs) = feed c cs (eqb c 10) refl (joined-lines cs)
     feed c cs false e h = joined-before c (linesOf cs) ∙ ap (λ (l : List ℕ). c ∷ l) h
 
 -- a row that accepts
-row-accepted : (b : Bool) (number place : ℕ) (js : List Judged) → first (refuse b number place ∷ js) ≡ Accepted → T (not b) × (first js ≡ Accepted)
+pub row-accepted : (b : Bool) (number place : ℕ) (js : List Judged) → first (refuse b number place ∷ js) ≡ Accepted → T (not b) × (first js ≡ Accepted)
 unfolding refuse first
 row-accepted true number place js e = let z : _≡_ {A = ℕ} 0 1 = cc in absurd (omega arith)
 row-accepted false number place js e = (tt, e)
@@ -150,6 +150,20 @@ module _ (stage : Stage) (i : ℕ) (l : Line) (ls : List Line) (p : Passed stage
       ∙ ap (λ (x : ℕ). line x (take (getD payloads x 0) (drop 1 (frame l))) ++ joined ls) e
       ∙ ap (λ (xs : List ℕ). line 6 xs ++ joined ls)
       (taken 2 1 (frame l) (omega arith) ∙ sym (two-pair (getD (frame l) 1 0) (getD (frame l) 2 0) (frame-bytes 2)) ∙ ap two (count-is e))
+
+-- the entries that are read are whole
+pub entries-whole : (stage : Stage) (i : ℕ) (ls : List Line) → first (lineRows stage i ls) ≡ Accepted → length (entriesIn ls) % entrySize ≡ 0
+unfolding entriesIn
+entries-whole stage i [] e = refl
+entries-whole stage i (l ∷ ls) e =
+    let p = passed stage i l ls e in
+    let h = entries-whole (after stage (kind l)) (suc i) ls (p .rest) in
+    ⊎-elim
+    (λ t.
+    rw (is-true (eqb (kind l) 3) t)
+    (omega (arith, length-append (entryIn l) (entriesIn ls), entry-long stage i l ls p (eqb→eq (kind l) 3 t))))
+    (λ t. rw (is-false (eqb (kind l) 3) t) h)
+    (decide (eqb (kind l) 3))
 
 -- nothing stands after the close
 nothing-after : (i : ℕ) (ls : List Line) → first (lineRows closed i ls) ≡ Accepted → ls ≡ []
