@@ -4,6 +4,7 @@ pub mod Lines
 pub mod Writes
 pub mod WritesLines
 pub mod WritesTexts
+pub mod WritesRows
 pub mod RoundTripLines
 pub mod RoundTripWritten
 pub mod RoundTripRead

@@ -1,5 +1,6 @@
 // Texts: frames in lines of hexadecimal, the reader, and the two writers.
 mod frame;
+pub mod input;
 mod kinds;
 pub mod refusal;
 mod result;
