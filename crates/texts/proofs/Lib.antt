@@ -5,6 +5,8 @@ pub mod Writes
 pub mod WritesLines
 pub mod WritesTexts
 pub mod WritesRows
+pub mod WritesLinks
+pub mod WritesRecord
 pub mod RoundTripLines
 pub mod RoundTripWritten
 pub mod RoundTripRead

@@ -8,13 +8,15 @@ use super::kinds::put_head;
 use super::kinds::put_link;
 use meaning::Judged;
 use meaning::Link;
+use weighing::records::judge_records;
+use weighing::records::link_at;
 ghost use mathlib.Core.Path.{_≡_};
 ghost use Prim.Native.Nat.{_+_, _*_, _≤_, _<_};
-ghost use lib.ListN.{length};
+ghost use lib.ListN.{length, take};
 ghost use Rattle.meaning.specs.Judge.{first};
 ghost use Rattle.meaning.specs.declared.Judged.the-variants.{Accepted};
 ghost use Rattle.weighing.specs.Records.{firstOf};
-ghost use Rattle.texts.specs.Writers.{over, linkLine, Counts, inputSize, laterRows, around, Begun, linksLeft};
+ghost use Rattle.texts.specs.Writers.{over, linkLine, linkLines, inputText, inputRows, Writes, Counts, inputSize, laterRows, around, Begun, linksLeft};
 
 // The length of an input text.
 fn size_of(count: usize, cuts: usize) -> usize
@@ -110,4 +112,26 @@ pub(crate) fn put_record(text: &mut [u8], i: usize, l: Link)
     ensures { λ _. ⌜ now (text .exit) ≡ over (now (text .entry)) (11 + 13 * i) (linkLine l) ⌝ }
 {
     put_link(text, 11 + 13 * i, l.a, l.b, l.tally);
+}
+
+// Frames 02 of the first links of a run of records, behind the head.
+fn put_links(links: &[Link], count: usize, text: &mut [u8])
+    requires { ⌜ (count ≤ length (now links)) × (0 < count → 11 + 13 * count ≤ length (now text)) ⌝ }
+    ensures { λ _. ⌜ now (text .exit) ≡ over (now (text .entry)) 11 (linkLines (take count (now (links .entry)))) ⌝ }
+{
+    let mut i = 0;
+    while i < count {
+        put_record(text, i, link_at(links, i));
+        i += 1;
+    }
+}
+
+// Writes an input text of links lent as records: rows 1 to 6, 9 and 20, then the text.
+pub fn write_input(n: u64, k: u64, links: &[Link], bytes: &[u8], text: &mut [u8]) -> Written
+    ensures { λ r. ⌜ Writes (first (inputRows n k (now (links .entry)) (now (bytes .entry)) (length (now (text .entry))))) (inputText n k (now (links .entry)) (now (bytes .entry))) (now (text .entry)) (now (text .exit)) r ⌝ }
+{
+    let judged = judge_records(n, k, links);
+    let written = begin(judged, n, k, links.len(), bytes, text);
+    put_links(links, links_left(written, links.len()), text);
+    written
 }
