@@ -7,6 +7,8 @@ pub mod WritesTexts
 pub mod WritesRows
 pub mod WritesLinks
 pub mod WritesRecord
+pub mod WritesLent
+pub mod WritesInput
 pub mod RoundTripLines
 pub mod RoundTripWritten
 pub mod RoundTripRead

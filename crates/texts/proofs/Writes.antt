@@ -7,7 +7,7 @@ use native.Mathlib.Nat.{add-zero, add-assoc}
 use native.Mathlib.Numerals.{add-one}
 use native.Mathlib.Omega.{arith}
 use lib.ListN.{length, getD, take, drop, set, length-append, length-drop, take-append-drop}
-use lib.Seq.{length-take-le, take-at, drop-at, drop-drop, set-split, append-snoc, sets-eq, take-suc}
+use lib.Seq.{length-take-le, take-at, drop-at, drop-drop, set-split, append-snoc, sets-eq, take-suc, take-append-le, take-take}
 use Rattle.texts.specs.Frame.{byteSum, sumByte, hex, line}
 use Rattle.texts.specs.Writers.{over}
 use Rattle.texts.proofs.Frames.{length-hex, hex-append, sum-bound, sum-snoc, whole, whole-length}
@@ -110,3 +110,17 @@ pub line-told : (room room′ : List ℕ) (at r kind : ℕ) (p q : List ℕ) →
     → (r ≡ at + (2 * length q + 5)) × (room′ ≡ over room at (line kind q))
 line-told room room′ at r kind p q e w =
     (w .0 ∙ ap (λ (l : List ℕ). at + length (line kind l)) e ∙ ap (λ (m : ℕ). at + m) (length-line kind q), w .1 ∙ ap (λ (l : List ℕ). over room at (line kind l)) e)
+
+-- a text in front of a text that was written first
+pub before : (room : List ℕ) (place at : ℕ) (s t : List ℕ) → place ≡ at + length s → place + length t ≤ length room
+    → over (over room place t) at s ≡ over room at (s ++ t)
+unfolding over
+before room place at s t e h =
+    let front : length (take place room) ≡ place = length-take-le place room (omega arith) in
+    let parts : take place room ++ t ++ drop (place + length t) room ≡ take place room ++ (t ++ drop (place + length t) room) = append-assoc (take place room) t _ in
+    let sum : place + length t ≡ at + length (s ++ t) = omega (arith, length-append s t) in
+    ap₂ (λ (u v : List ℕ). u ++ s ++ v)
+    (ap (take at) parts ∙ take-append-le at (take place room) _ (omega arith) ∙ take-take at place room (omega arith))
+    (ap₂ (λ (m : ℕ) (l : List ℕ). drop m l) (sym e) parts ∙ drop-at (take place room) _ place front)
+    ∙ sym (append-assoc (take at room ++ s) t (drop (place + length t) room))
+    ∙ ap₂ (λ (u v : List ℕ). u ++ v) (append-assoc (take at room) s t) (ap (λ (m : ℕ). drop m room) sum)

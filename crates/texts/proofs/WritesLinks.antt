@@ -1,17 +1,19 @@
 -- Links behind the head, one after the other: none yet, one link more, and the length that stays.
 -- Assumes nothing.
-use Prim.Native.Nat.{ℕ, zero, suc, _+_, _*_, _≤_, _<_}
+use Prim.Native.Nat.{ℕ, zero, suc, _+_, _*_, _/_, _≤_, _<_}
 use mathlib.Core.Path.{_≡_, refl, sym, _∙_, ap}
-use mathlib.Core.List.{List, [], _∷_, _++_}
+use mathlib.Core.List.{List, [], _∷_, _++_, append-assoc}
 use native.Mathlib.Numerals.{add-one}
 use native.Mathlib.Omega.{arith}
-use lib.ListN.{length, getD, take}
-use lib.Seq.{length-take-le, take-suc}
+use lib.ListN.{length, getD, take, length-append}
+use lib.Seq.{length-take-le, take-suc, take-length}
 use Rattle.meaning.specs.declared.Link.{Link}
+use Rattle.meaning.specs.declared.Judged.the-variants.{Accepted}
 use Rattle.weighing.specs.Records.{noLink}
-use Rattle.texts.specs.Writers.{over, linkLine, linkLines}
-use Rattle.texts.proofs.Writes.{over-nil, length-over, onto}
-use Rattle.texts.proofs.WritesLines.{length-link, length-links, links-more}
+use Rattle.cutting.specs.Record.{entrySize}
+use Rattle.texts.specs.Writers.{over, headLine, linkLine, linkLines, cutLines, closeLine, inputText, inputSize, around}
+use Rattle.texts.proofs.Writes.{over-nil, length-over, onto, before}
+use Rattle.texts.proofs.WritesLines.{length-head, length-links, length-cuts, length-close, links-more}
 
 -- the room after the first i links
 abbrev pub linked : List ℕ → List Link → ℕ → List ℕ
@@ -44,3 +46,29 @@ module _ (room : List ℕ) (links : List Link) where
 
     pub linked-room : (i : ℕ) → i < count → 11 + 13 * i + 13 ≤ length (linked room links i)
     linked-room i h = let f = fits (omega arith) in omega (arith, linked-long i (omega arith))
+
+-- the frames around the links, and the links between them, are the input text
+module _ (n k : ℕ) (links : List Link) (bytes room : List ℕ) (fits : inputSize (length links) (length bytes / entrySize) ≤ length room) where
+  pub between : linked (around Accepted n k (length links) bytes room) links (length links) ≡ over room 0 (inputText n k links bytes)
+  unfolding around inputText
+  between =
+      let m = length bytes / entrySize in
+      let count = length links in
+      let head = headLine n k in
+      let lines = linkLines links in
+      let cuts = cutLines m bytes in
+      let close = closeLine (1 + count + m) in
+      let l₁ = length-head n k in
+      let l₂ = length-links links in
+      let l₃ = length-cuts m bytes (omega arith) in
+      let l₄ = length-close (1 + count + m) in
+      let l₅ = length-append cuts close in
+      let first : List ℕ = over room 0 head in
+      let l₆ : length first ≡ length room = length-over room 0 head (omega arith) in
+      ap (λ (xs : List Link). over (over first (11 + 13 * count) (cuts ++ close)) 11 (linkLines xs)) (take-length links)
+      ∙ before first (11 + 13 * count) 11 lines (cuts ++ close) (omega arith) (omega arith)
+      ∙ onto room 0 head (lines ++ (cuts ++ close)) first 11 refl (omega arith) (omega arith)
+      ∙ ap (over room 0) (regroup head lines cuts close)
+    where
+      regroup : (a b c d : List ℕ) → a ++ (b ++ (c ++ d)) ≡ a ++ b ++ c ++ d
+      regroup a b c d = simp append-assoc
