@@ -48,7 +48,7 @@ module _ (n k : ℕ) (links : List Link) (bytes room : List ℕ) where
   unfolding inputRows laterRows
   rows-are =
       first-both (tableRows n k true links) _
-      ∙ ap (λ (m : ℕ). firstOf (first (tableRows n k true links)) (first (recordRow n bytes ∷ refuse (ltb (length room) m) 20 0 ∷ []))) (length-input n k links bytes)
+      ∙ ap (λ (m : ℕ). firstOf (first (tableRows n k true links)) (first (recordRow n (length bytes) ∷ refuse (ltb (length room) m) 20 0 ∷ []))) (length-input n k links bytes)
 
   -- what rows 1 to 6 and rows 9 and 20 show
   pub counts : first (tableRows n k true links) ≡ Accepted → Counts n k (length links)

@@ -75,12 +75,12 @@ unnoted (l ∷ ls) = not (eqb (kind l) 5) && unnoted ls
 -- what each writer tries: 1 to 6, 9 (and 10 to 13), 20
 unfoldable pub inputRows : ℕ → ℕ → List Link → List ℕ → ℕ → List Judged
 inputRows n k links bytes room =
-    tableRows n k true links ++ recordRow n bytes ∷ refuse (ltb room (length (inputText n k links bytes))) 20 0 ∷ []
+    tableRows n k true links ++ recordRow n (length bytes) ∷ refuse (ltb room (length (inputText n k links bytes))) 20 0 ∷ []
 
 unfoldable pub resultRows : ℕ → ℕ → List Link → List ℕ → ℕ → List Judged
 resultRows n k links bytes room =
     tableRows n k true links
-    ++ recordRow n bytes
+    ++ recordRow n (length bytes)
     ∷ entriesRows n (pairTally links) k start 0 (cutsOf bytes)
     ++ refuse (ltb room (length (resultText n k bytes))) 20 0
     ∷ []
@@ -114,7 +114,7 @@ inputSize count cuts = 20 + 13 * count + 47 * cuts
 
 -- rows 9 and 20 of the input writer, of so many links
 unfoldable pub laterRows : ℕ → ℕ → List ℕ → ℕ → List Judged
-laterRows n count bytes room = recordRow n bytes ∷ refuse (ltb room (inputSize count (length bytes / entrySize))) 20 0 ∷ []
+laterRows n count bytes room = recordRow n (length bytes) ∷ refuse (ltb room (inputSize count (length bytes / entrySize))) 20 0 ∷ []
 
 -- an input text's frames but its links, around the room that so many links take; nothing where refused
 unfoldable pub around : Judged → ℕ → ℕ → ℕ → List ℕ → List ℕ → List ℕ
