@@ -1,4 +1,4 @@
--- The laws about frames and lines.
+-- The laws about frames and lines, about reading and writing them, and the theorems about texts.
 pub mod Frames
 pub mod Lines
 pub mod Stages
@@ -11,3 +11,16 @@ pub mod ReadsStore
 pub mod ReadsPut
 pub mod ReadsAll
 pub mod ReadsRow
+pub mod Writes
+pub mod WritesLines
+pub mod WritesTexts
+pub mod WritesRows
+pub mod WritesLinks
+pub mod WritesRecord
+pub mod WritesLent
+pub mod WritesInput
+pub mod RoundTripLines
+pub mod RoundTripWritten
+pub mod RoundTripRead
+pub mod RoundTripCalls
+pub mod Texts
