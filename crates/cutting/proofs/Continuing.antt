@@ -25,6 +25,19 @@ use Rattle.cutting.proofs.Cuts.{length-cuts, cuts-front, cuts-of}
 use Rattle.cutting.proofs.Lawful.{row-accepted, narrow-cuts, entries-lawful}
 use Rattle.cutting.proofs.Finish.{cuts-most, run-labels, run-groups, run-cuts}
 
+-- the empty record begins with one pile of all bones
+pub empty-begins : (n : ℕ) (w : Tally) (k : ℕ) (names space : List ℕ) {cuts : ℕ} → cuts ≡ 0 → 0 < n → n ≤ 128 → k ≤ 65535 → entrySize * (n - 1) ≤ length space → heapOf names ≡ start → length names ≡ 128 → Begun n w k names space cuts
+unfolding cutsIn LawfulRun left
+empty-begins n w k names space {cuts} none some-bones few low room heap long =
+    subst (Begun n w k names space) (sym none)
+    (record { some-bones = some-bones; few-bones = few; low-threshold = low; room = room; run = tt; heap = heap; names-long = long })
+
+-- the names at the end are the labels
+pub ended-label : (n : ℕ) (w : Tally) (k : ℕ) (space : List ℕ) (cuts : ℕ) (names′ space′ : List ℕ) (cuts′ : ℕ) → 0 < n → Ended n w k space cuts names′ space′ cuts′ → (b : ℕ) → b < n → heapOf names′ b ≡ label n w k b
+ended-label n w k space cuts names′ space′ cuts′ some-bones e b l =
+    ap (λ (h : Heap). h b) (e .heap)
+    ∙ run-labels n w k some-bones (cutsIn cuts′ space′) (e .run) (subst (λ (h : Heap). T (finished n w k h)) (e .heap) (e .done)) b l
+
 -- what rows 9 to 13 accept
 pub record Sound (n : ℕ) (w : Tally) (k : ℕ) (bytes : List ℕ) : Type 0 where
   pub whole : length bytes % entrySize ≡ 0
@@ -119,7 +132,7 @@ module _ (n : ℕ) (w : Tally) (k : ℕ) (bytes space : List ℕ) (s : Sound n w
     unfolding written
     ended-labels labels =
         ap (λ (x : List ℕ). x ++ drop n labels)
-        (names-same n (heapOf names′) (label n w k) (λ b l. ap (λ (h : Heap). h b) (e .heap) ∙ run-labels n w k some-bones (cutsIn cuts′ space′) (e .run) done b l))
+        (names-same n (heapOf names′) (label n w k) (ended-label n w k _ _ names′ space′ cuts′ some-bones e))
 
     pub ended-groups : piles n (heapOf names′) ≡ groups n w k
     ended-groups = ap (piles n) (e .heap) ∙ run-groups n w k some-bones (cutsIn cuts′ space′) (e .run) done

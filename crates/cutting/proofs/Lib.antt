@@ -10,4 +10,4 @@ pub mod Going
 pub mod Carried
 pub mod Continuing
 pub mod Demands
-pub mod Thinning
+pub mod Keeping

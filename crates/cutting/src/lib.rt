@@ -9,6 +9,7 @@ mod thin;
 
 pub use check::checking;
 pub use group::grouping;
+pub use thin::thinning;
 
 // What grouping and checking answer: a refusal of the table with its place, or the number of groups (of piles) and whether the run of cuts
 // is finished.

@@ -6,7 +6,7 @@ use lib.ListN.{length, take, drop, length-take, length-drop}
 use lib.Seq.{paste}
 use borrow.Author.Tests.{not-true, not-false}
 use Rattle.weighing.specs.Links.{linkAt}
-use Rattle.cutting.proofs.Thinning.{keeps-not, keeps-it}
+use Rattle.cutting.proofs.Keeping.{keeps-not, keeps-it}
 use borrow.Author.Needs.{needs}
 use Rattle.cutting.proofs.thin.keep_link.Statement.{statement}
 use Rattle.cutting.proofs.thin.keep_link.Tie as tie

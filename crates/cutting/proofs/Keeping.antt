@@ -8,16 +8,24 @@ use native.Mathlib.Nat.{le-refl, add-zero}
 use native.Mathlib.Omega.{arith}
 use lib.Dec.{eqb}
 use lib.ListN.{length, getD, take, drop, length-take, length-drop, take-append-drop}
+use borrow.Author.Tests.{lt-ltb, le-ltb}
 use lib.Seq.{paste, getD-drop, drop-drop, take-take, take-paste, drop-paste, length-paste}
 use Rattle.meaning.specs.declared.Link.{Link}
-use Rattle.meaning.specs.declared.Judged.the-variants.{Accepted}
-use Rattle.meaning.specs.Judge.{first}
+use Rattle.meaning.specs.declared.Judged.{Judged}
+use Rattle.meaning.specs.declared.Judged.the-variants.{Accepted, Refused}
+use Rattle.meaning.specs.Judge.{refuse, first}
+use Rattle.meaning.specs.Tally.{Tally}
+use Rattle.meaning.specs.Firm.{label}
 use Rattle.meaning.specs.Heap.{Heap}
-use Rattle.weighing.specs.Links.{linksOf, linkAt, linksRows}
+use Rattle.weighing.specs.Links.{linksOf, linkAt, linkRows, linksRows, tableRows}
 use Rattle.weighing.proofs.LinksBytes.{linksOf-next, linksOf-end}
-use Rattle.weighing.proofs.LinksRows.{Proper, Propers, link-accepted, links-here, links-next}
-use Rattle.cutting.specs.Calls.{kept, linkBytes, over}
+use Rattle.weighing.proofs.LinksRows.{Proper, Propers, first-accepted, first-refused, link-accepted, links-here, links-next}
+use Rattle.cutting.specs.declared.Thinned.{Thinned}
+use Rattle.cutting.specs.declared.Thinned.the-variants.{Kept, Refused as Refused·thinned}
+use Rattle.cutting.specs.Rows.{linkRow, thinningRows}
+use Rattle.cutting.specs.Calls.{settled, kept, linkBytes, over, keeping, Thins}
 use Rattle.cutting.specs.Thin.{Keeps}
+use Rattle.cutting.proofs.Alike.{Alike, label-alike}
 
 -- ---- a link as bytes
 
@@ -106,7 +114,7 @@ module _ (h : Heap) (links space₀ : List ℕ) where
     next : linksOf (drop (i * 4) links) ≡ linkAt links i ∷ linksOf (drop ((i + 1) * 4) links)
     next = linksOf-next links i l refl
 
-    accepted : first (Rattle.weighing.specs.Links.linkRows 128 i (linkAt links i)) ≡ Accepted
+    accepted : first (linkRows 128 i (linkAt links i)) ≡ Accepted
     accepted = links-here 128 i (linkAt links i) (linksOf (drop ((i + 1) * 4) links)) next (k .proper)
 
     pub keeping-proper : Proper 128 (linkAt links i)
@@ -189,3 +197,58 @@ module _ (h : Heap) (links space₀ : List ℕ) where
         sym number,
         sym (take-append-drop (count * 4) space) ∙ ap₂ _++_ (sym bytes) (k .rest ∙ ap (λ (m : ℕ). drop m space₀) (sym long)),
       )
+
+-- ---- thinning's promise
+
+pub kept-most : (h : Heap) (ls : List Link) → length (kept h ls) ≤ length ls
+unfolding kept
+kept-most h [] = le-refl 0
+kept-most h (l ∷ ls) = go (eqb (h (l .a)) (h (l .b))) (kept-most h ls)
+  where
+    go : (t : Bool) → length (kept h ls) ≤ length ls → length (cond t (l ∷ kept h ls) (kept h ls)) ≤ suc (length ls)
+    go true m = omega arith
+    go false m = omega arith
+
+module _ (links room : ℕ) where
+  pub links-short : room < links → first (linkRow links room ∷ []) ≡ Refused 14 0
+  unfolding linkRow refuse first
+  links-short l = rw (lt-ltb room links l)
+
+  pub links-fit : links ≤ room → first (linkRow links room ∷ []) ≡ Accepted
+  unfolding linkRow refuse first
+  links-fit l = rw (le-ltb room links l)
+
+module _ (rows : List Judged) (n : ℕ) (w : Tally) (k : ℕ) (links : List Link) (space : List ℕ) where
+  pub thins-refused : (number place : ℕ) → first rows ≡ Refused number place → Thins rows n w k links space space (Refused·thinned number place)
+  unfolding keeping settled
+  thins-refused number place e =
+      record {
+        answer = ap (λ (j : Judged). keeping j (length (kept (label n w k) links))) (sym e);
+        links-left = ap (λ (j : Judged). settled j space (over (linkBytes (kept (label n w k) links)) space)) (sym e);
+      }
+
+  pub thins-accepted : (h : Heap) (space′ : List ℕ) (count : ℕ) → first rows ≡ Accepted → kept h links ≡ kept (label n w k) links → count ≡ length (kept h links) → space′ ≡ over (linkBytes (kept h links)) space → Thins rows n w k links space space′ (Kept count)
+  unfolding keeping settled
+  thins-accepted h space′ count e same q p =
+      record {
+        answer = ap Kept (q ∙ ap length same) ∙ ap (λ (j : Judged). keeping j (length (kept (label n w k) links))) (sym e);
+        links-left = p
+            ∙ ap (λ (ls : List Link). over (linkBytes ls) space) same
+            ∙ ap (λ (j : Judged). settled j space (over (linkBytes (kept (label n w k) links)) space)) (sym e);
+      }
+
+pub thins-alike : (n : ℕ) (v w : Tally) → Alike n v w → (k : ℕ) (rows rows′ : List Judged) (links : List Link) (space space′ : List ℕ) (r : Thinned) → first rows ≡ first rows′ → Thins rows n v k links space space′ r → Thins rows′ n w k links space space′ r
+thins-alike n v w alike k rows rows′ links space space′ r e t =
+    record {
+      answer = t .answer ∙ ap₂ (λ (j : Judged) (h : Heap). keeping j (length (kept h links))) e (label-alike n v w alike k);
+      links-left = t .links-left ∙ ap₂ (λ (j : Judged) (h : Heap). settled j space (over (linkBytes (kept h links)) space)) e (label-alike n v w alike k);
+    }
+
+module _ (n k : ℕ) (good : Bool) (links : List Link) (room : ℕ) where
+  pub thinning-core : first (tableRows n k good links) ≡ Accepted → first (linkRow (length links) room ∷ []) ≡ first (thinningRows n k good links room)
+  unfolding thinningRows
+  thinning-core accepted = sym (first-accepted (tableRows n k good links) (linkRow (length links) room ∷ []) accepted)
+
+  pub thinning-stop : (number place : ℕ) → first (tableRows n k good links) ≡ Refused number place → first (thinningRows n k good links room) ≡ Refused number place
+  unfolding thinningRows
+  thinning-stop number place e = first-refused (tableRows n k good links) (linkRow (length links) room ∷ []) number place e
