@@ -6,7 +6,7 @@ use crate::table::add_link;
 use meaning::Judged;
 use meaning::Link;
 ghost use mathlib.Core.Path.{_≡_};
-ghost use Prim.Native.Nat.{_<_, _≤_};
+ghost use Prim.Native.Nat.{_+_, _<_, _≤_};
 ghost use mathlib.Core.Bool.{true};
 ghost use lib.ListN.{length, getD, set, take};
 ghost use Rattle.meaning.specs.Judge.{first};
