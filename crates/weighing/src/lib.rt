@@ -3,6 +3,7 @@ mod links;
 mod moved;
 mod pass;
 pub mod records;
+mod row;
 mod scan;
 pub mod search;
 mod side;
