@@ -17,6 +17,7 @@ pub mod Bits
 pub mod Searching
 pub mod Growing
 pub mod GrowRows
+pub mod GrowState
 pub mod Flowing
 pub mod RecordsRows
 pub mod RecordsKept

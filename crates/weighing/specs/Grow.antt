@@ -57,14 +57,18 @@ pub record Lone (n : ℕ) (w : Tally) (k : ℕ) (S free : Bones) (degrees : List
   pub light : lone < 128 → getD degrees lone 0 < k
   pub none : 128 ≤ lone → (b : ℕ) → b < n → T (free b) → Weighed n w k S degrees b
 
--- how far a growth of L from p has come: what each bone has to L, what L weighs, and how many bones are free
-pub record Spread (n : ℕ) (w : Tally) (k : ℕ) (S : Bones) (p : ℕ) (free degrees ties : List ℕ) (out left : ℕ) : Type 0 where
+-- a growth of L from p: L is not divided, and what each bone has to L is known
+pub record Spread (n : ℕ) (w : Tally) (k : ℕ) (S : Bones) (p : ℕ) (free degrees ties : List ℕ) : Type 0 where
   pub long : length free ≡ 128
   pub others : (x : ℕ) → T (marked free x) → T (beside S p x)
   pub weighed : (x : ℕ) → T (marked free x) → Weighed n w k S degrees x
   pub undivided : Undivided n w k S (joined S (marked free))
   pub ties-long : length ties ≡ 128
   pub tied : (c : ℕ) → c < n → getD ties c 0 ≡ reaches n w c (joined S (marked free))
+  pub most : (x : ℕ) → getD ties x 0 ≤ 2 ^ 40
+
+-- what L weighs, how many bones are free, and that the sums have room for them
+pub record Measured (n : ℕ) (w : Tally) (S : Bones) (free ties : List ℕ) (out left : ℕ) : Type 0 where
   pub weighs : out ≡ weight n w S (joined S (marked free))
   pub counted : left ≡ count n (marked free)
   pub room : (x : ℕ) → getD ties x 0 + left * 2 ^ 32 ≤ 2 ^ 40

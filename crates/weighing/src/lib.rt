@@ -8,6 +8,7 @@ mod scan;
 pub mod search;
 mod side;
 mod table;
+mod tied;
 
 pub use links::judge;
 pub use side::in_side;
