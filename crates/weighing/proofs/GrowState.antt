@@ -29,7 +29,7 @@ undivided-within n w k S L M within kept A s l =
     let r = kept A s l in (r .0, r .1, r .2, λ x t. r .3 x (within x t))
 
 -- tallies with sets that agree, and with one bone
-reaches-same : (n : ℕ) (w : Tally) (v : ℕ) (X Y : Bones) → ((b : ℕ) → X b ≡ Y b) → reaches n w v X ≡ reaches n w v Y
+pub reaches-same : (n : ℕ) (w : Tally) (v : ℕ) (X Y : Bones) → ((b : ℕ) → X b ≡ Y b) → reaches n w v X ≡ reaches n w v Y
 unfolding reaches
 reaches-same n w v X Y e = sum-ext n _ _ (λ b h. ap (λ (t : Bool). cond t (w v b) 0) (e b))
 
@@ -101,7 +101,7 @@ joined-out : (S : Bones) (free : Bones) (b : ℕ) → T (free b) → T (not (joi
 unfolding joined
 joined-out S free b t = taut 2 (λ s f. f ⊃ so (not (s && not f))) tt (S b) (free b) t
 
-beside-in : (S : Bones) (p b : ℕ) → T (beside S p b) → T (S b)
+pub beside-in : (S : Bones) (p b : ℕ) → T (beside S p b) → T (S b)
 unfolding beside
 beside-in S p b t = left-of (S b) (not (eqb b p)) t
 

@@ -18,6 +18,7 @@ pub mod Searching
 pub mod Growing
 pub mod GrowRows
 pub mod GrowState
+pub mod GrowEnds
 pub mod Flowing
 pub mod RecordsRows
 pub mod RecordsKept

@@ -1,4 +1,5 @@
 // Weighing: the pair table, the weight of a side, and the search for a light split.
+mod grow;
 mod links;
 mod moved;
 mod pass;
