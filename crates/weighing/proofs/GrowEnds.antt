@@ -19,7 +19,7 @@ use Rattle.meaning.proofs.Tests.{_⇒_, imp, taut, so, _⊃_, decide, same-test
 use Rattle.meaning.proofs.Sums.{sum-term, count-same}
 use Rattle.meaning.proofs.Sets.{some-intro, some-elim}
 use Rattle.weighing.specs.Side.{heapOf}
-use Rattle.weighing.specs.Scan.{reaches, marked, taken, untaken, Filled, BlockNames, Kept, LightSide}
+use Rattle.weighing.specs.Scan.{reaches, marked, taken, untaken, Filled, BlockNames, Kept, LightSide, Passed}
 use Rattle.weighing.specs.Grow.{beside, degree, Undivided, joined, Added, Weighed, Spread, Measured, LightMarks, Reached, Known}
 use Rattle.weighing.proofs.Adjacency.{untaken-weight}
 use Rattle.weighing.proofs.Merging.{weight-on, splits-on}
@@ -267,3 +267,16 @@ module _ (n : ℕ) (w : Tally) (k : ℕ) (S : Bones) (p : ℕ) (below : (b : ℕ
               named-in b t (both (S b) (not (marked free b)) t (count-none n (marked free) b (sym (reached .counted refl) ∙ eqb-true left 0 one) (below b t)))
               ∙ sym (named-in p standing first);
         }
+
+-- a pass goes on from what is known
+pub known-passed : {n : ℕ} {w : Tally} {k : ℕ} {S : Bones} {p : ℕ} {block free block′ free′ : List ℕ} {lit alone light one : Bool} {before weighs : ℕ} → Known n w k S p block free lit alone before → Passed n w k S p (heapOf block) block′ free′ light one weighs → Known n w k S p block′ free′ light one weighs
+known-passed known passed =
+    record {
+      long = passed .long;
+      free-long = passed .free-long;
+      free-rest = passed .free-rest;
+      names = passed .names;
+      kept = passed .kept (known .kept);
+      found = passed .found;
+      alone = passed .alone;
+    }
