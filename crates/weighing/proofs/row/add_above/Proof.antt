@@ -19,55 +19,43 @@ Inv-loop table n b sums₀ c₀ sums c = (b + 1 ≤ c) × (c ≤ n) × Added sum
 abbrev μ-loop : tie.MeasureT-loop
 μ-loop table n b sums₀ c₀ sums c = n - c
 
--- src/row.rt:78:14
 add-c : tie.Need-add-c Inv-loop μ-loop
 add-c c = omega arith
 
--- src/row.rt:78:5
 loop-holds : tie.Need-loop-holds Inv-loop μ-loop
 loop-holds c = (le-refl _, omega arith, added-start _ _ _ (c .pre .1 .long))
 
--- src/row.rt:79:19
 mul-sums : tie.Need-mul-sums Inv-loop μ-loop
 mul-sums c = omega arith
 
--- src/row.rt:79:19
 element-copy-out-sums : tie.Need-element-copy-out-sums Inv-loop μ-loop
 element-copy-out-sums c = omega arith
 
--- src/row.rt:79:29
 pair-requires : tie.Need-pair-requires Inv-loop μ-loop
 pair-requires c κs = omega arith
 
--- src/row.rt:79:19
 add-sums : tie.Need-add-sums Inv-loop μ-loop
 add-sums c =
     let l = c .before .before .before .loop in
     omega (arith, c .before .before .before .before .pre .1 .room (l .c), l .inv .2 .over (l .c) (le-refl _), c .pair .ensures .2)
 
--- src/row.rt:79:9
 mul-sums-2 : tie.Need-mul-sums-2 Inv-loop μ-loop
 mul-sums-2 c = omega arith
 
--- src/row.rt:79:9
 element-write-sums : tie.Need-element-write-sums Inv-loop μ-loop
 element-write-sums c = omega arith
 
--- src/row.rt:78:9
 add-c-2 : tie.Need-add-c-2 Inv-loop μ-loop
 add-c-2 c = omega arith
 
--- src/row.rt:78:5
 loop-less : tie.Need-loop-less Inv-loop μ-loop
 loop-less c = omega arith
 
--- src/row.rt:78:5
 loop-again : tie.Need-loop-again Inv-loop μ-loop
 loop-again c =
     let l = c .before .before .before .loop in
     (omega arith, omega arith, added-next _ (l .sums) _ _ (l .c) _ (l .inv .2) (l .inv .0) (omega arith) (c .pair .ensures .0) (c .pair .ensures .2))
 
--- src/row.rt:73:1
 returns : tie.Need-returns Inv-loop μ-loop
 returns c =
     let l = c .before .loop in

@@ -19,55 +19,43 @@ Inv-loop table b sums₀ c₀ c-end sums c = (c ≤ b + 1) × Added sums₀ sums
 abbrev μ-loop : tie.MeasureT-loop
 μ-loop table b sums₀ c₀ c-end sums c = c-end - c
 
--- src/row.rt:67:17
 add-c-end : tie.Need-add-c-end Inv-loop μ-loop
 add-c-end c = omega arith
 
--- src/row.rt:67:5
 loop-holds : tie.Need-loop-holds Inv-loop μ-loop
 loop-holds c = (zero-le, added-start _ _ 0 (c .pre .1 .long))
 
--- src/row.rt:68:19
 mul-sums : tie.Need-mul-sums Inv-loop μ-loop
 mul-sums c = omega arith
 
--- src/row.rt:68:19
 element-copy-out-sums : tie.Need-element-copy-out-sums Inv-loop μ-loop
 element-copy-out-sums c = omega arith
 
--- src/row.rt:68:29
 pair-requires : tie.Need-pair-requires Inv-loop μ-loop
 pair-requires c κs = omega arith
 
--- src/row.rt:68:19
 add-sums : tie.Need-add-sums Inv-loop μ-loop
 add-sums c =
     let l = c .before .before .before .loop in
     omega (arith, c .before .before .before .before .pre .1 .room (l .c), l .inv .1 .over (l .c) (le-refl _), c .pair .ensures .2)
 
--- src/row.rt:68:9
 mul-sums-2 : tie.Need-mul-sums-2 Inv-loop μ-loop
 mul-sums-2 c = omega arith
 
--- src/row.rt:68:9
 element-write-sums : tie.Need-element-write-sums Inv-loop μ-loop
 element-write-sums c = omega arith
 
--- src/row.rt:67:9
 add-c : tie.Need-add-c Inv-loop μ-loop
 add-c c = omega arith
 
--- src/row.rt:67:5
 loop-less : tie.Need-loop-less Inv-loop μ-loop
 loop-less c = omega arith
 
--- src/row.rt:67:5
 loop-again : tie.Need-loop-again Inv-loop μ-loop
 loop-again c =
     let l = c .before .before .before .loop in
     (omega arith, added-next _ (l .sums) _ 0 (l .c) _ (l .inv .1) zero-le (omega arith) (c .pair .ensures .1) (c .pair .ensures .2))
 
--- src/row.rt:62:1
 returns : tie.Need-returns Inv-loop μ-loop
 returns c =
     let l = c .before .loop in
