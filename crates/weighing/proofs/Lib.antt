@@ -16,6 +16,9 @@ pub mod Passing
 pub mod Bits
 pub mod Searching
 pub mod Growing
+pub mod GrowRows
+pub mod GrowState
+pub mod GrowEnds
 pub mod Flowing
 pub mod RecordsRows
 pub mod RecordsKept

@@ -1,12 +1,15 @@
 // Weighing: the pair table, the weight of a side, and the search for a light split.
+mod grow;
 mod links;
 mod moved;
 mod pass;
 pub mod records;
+mod row;
 mod scan;
 pub mod search;
 mod side;
 mod table;
+mod tied;
 
 pub use links::judge;
 pub use side::in_side;

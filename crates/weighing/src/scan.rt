@@ -22,7 +22,7 @@ ghost use Rattle.weighing.specs.Scan.{
   Looked,
 };
 
-fn wide(x: u32) -> u64
+pub(crate) fn wide(x: u32) -> u64
     ensures { λ r. ⌜ (r ≡ x) × (r < 2 ^ 32) ⌝ }
 {
     x as u64
