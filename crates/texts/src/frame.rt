@@ -15,30 +15,26 @@ pub(crate) struct Frame {
 }
 
 // The payload's length by kind; there is no kind 00.
-const PAYLOADS: [usize; 8] = [0, 3, 4, 21, 2, 16, 2, 3];
+const PAYLOADS: [u8; 8] = [0, 3, 4, 21, 2, 16, 2, 3];
 
 // The length of a kind's payload, nought where there is no such kind.
 pub(crate) fn payload(kind: usize) -> usize
     ensures { λ r. ⌜ r ≡ getD payloads kind 0 ⌝ }
 {
-    if kind < 8 { PAYLOADS[kind] } else { 0 }
+    if kind < 8 { wide(PAYLOADS[kind]) } else { 0 }
 }
 
-// The digit that a character is, 16 where it is none.
+// The digit that a character is, 16 where it is none. What is below a digit wraps round to a great number, so each run of digits is one test.
 pub(crate) fn value(c: u8) -> u8
     ensures { λ r. ⌜ r ≡ valueOf c ⌝ }
 {
-    if c < 48 {
-        return 16;
+    let low = std::num::wrapping_sub_u8(c, 48);
+    let high = std::num::wrapping_sub_u8(c, 97);
+    if low < 10 {
+        return low;
     }
-    if c < 58 {
-        return c - 48;
-    }
-    if c < 97 {
-        return 16;
-    }
-    if c < 103 {
-        return c - 87;
+    if high < 6 {
+        return high + 10;
     }
     16
 }
