@@ -18,6 +18,7 @@ pub mod WritesRows
 pub mod WritesLinks
 pub mod WritesRecord
 pub mod WritesLent
+pub mod WritesAnswer
 pub mod WritesInput
 pub mod RoundTripLines
 pub mod RoundTripWritten

@@ -24,15 +24,8 @@ use Rattle.texts.specs.Writers.{over, headLine, cutLines, closeLine, inp
 use Rattle.texts.proofs.Writes.{length-over}
 use Rattle.texts.proofs.WritesLines.{length-head, length-cuts, length-close}
 use Rattle.texts.proofs.WritesTexts.{length-input}
-use Rattle.texts.proofs.WritesRows.{Later, later-accepted}
+use Rattle.texts.proofs.WritesRows.{first-both, Later, later-accepted}
 use Rattle.texts.proofs.WritesLinks.{linked, linked-none, between}
-
--- the first refusal of two lists of rows
-first-both : (js ks : List Judged) → first (js ++ ks) ≡ firstOf (first js) (first ks)
-unfolding first firstOf
-first-both [] ks = refl
-first-both (Accepted ∷ js) ks = first-both js ks
-first-both (Refused number place ∷ js) ks = refl
 
 both-accepted : (i j : Judged) → firstOf i j ≡ Accepted → (i ≡ Accepted) × (j ≡ Accepted)
 unfolding firstOf

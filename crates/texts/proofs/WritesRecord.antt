@@ -1,6 +1,5 @@
 -- The call of `put_record` in a walk, said once: the text space is lent again for a lifetime of the call, and comes back with the link's line at its
 -- place.
---     OwnText n zs     what a `&mut [u8]` owns that was passed with n bytes and is now at zs, which is as long
 -- Assumes `Given`, and that the table of calls is monotone under a frame.
 use mathlib.Core.Path.{_≡_, refl, sym, ap, _∙_, subst}
 use Prim.Native.Nat.{ℕ, _+_, _*_, _≤_, _<_, _^_}
@@ -37,24 +36,19 @@ use Rattle.weighing.proofs.RecordsCalls.{calls-to}
 use Rattle.weighing.proofs.RecordsAgain.{LentAgain, lends-again, comes-back}
 use Rattle.texts.specs.Writers.{over, linkLine}
 use Rattle.texts.proofs.Writes.{length-over}
+use Rattle.texts.proofs.WritesLent.{OwnText, textRef}
 use Rattle.texts.proofs.WritesLines.{length-link}
 use Rattle.texts.proofs.input.put_record as f
 use Rattle.texts.proofs.input.put_record.Symbol.{name as #put-record}
 
 module _ (b o : ℕ) where
-  abbrev ref : GName → List ℕ → RefT (List ℕ)
-  ref γ zs = record { ptr = (b, o); name = γ; now = zs }
-
-  abbrev pub OwnText : Lft → GName → ℕ → List ℕ → Fml
-  OwnText κ γ n zs = MutSlice (named 0) κ u8 .own (ref γ zs) (sliceVal (b, o) n ∷ [])
-
   module _ {M : Type 1} (𝓤 : URA M) (H : Heap 𝓤) (A : Atoms 𝓤) (mem : Memory → SProp 𝓤) (run : Routine → Fun 𝓤) where
     abbrev pub PutRecord : Contract 𝓤
     PutRecord = tripleOf 𝓤 H A f.signature (f.spec 𝓤 H A mem run)
 
     -- what the call is made at: the lifetime α, and the name δ under which the text space is lent again
     abbrev pub to-put : ℕ → GName → List ℕ → ℕ → Link → PutRecord .Ghost
-    to-put α δ zs i l = (((α ∷ [], tt), (fullShare, tt), tt, (ref δ zs, (i, (l, tt))), (sliceVal (b, o) (length zs) ∷ [], (vint w64 i ∷ [], (val l ∷ [], tt)))), tt)
+    to-put α δ zs i l = (((α ∷ [], tt), (fullShare, tt), tt, (textRef b o δ zs, (i, (l, tt))), (sliceVal (b, o) (length zs) ∷ [], (vint w64 i ∷ [], (val l ∷ [], tt)))), tt)
 
 module _ {M : Type 1} {𝓤 : URA M} {H : Heap 𝓤} {A : Atoms 𝓤} {K : Type 0} {W : Given 𝓤 H A} {Γ : List (Item 𝓤)} {E : Env 𝓤 H} {C : Calls 𝓤 H} {Λ : Loops 𝓤 H} {xs : List Operand} {post : Post 𝓤 H} {d : Place} {rest : Body} where
   pub calls-put : K → (mem : Memory → SProp 𝓤) (run : Routine → Fun 𝓤) → FmC 𝓤 H (W .laws) C → {b o : ℕ} → Triple 𝓤 (C #put-record) (PutRecord b o 𝓤 H A mem run) → {κ : Lft} {q : Share} {γ : GName} (n : ℕ) (zs : List ℕ) (i : ℕ) (l : Link)

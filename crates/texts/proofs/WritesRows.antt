@@ -1,26 +1,37 @@
--- Rows 9 and 20 of the input writer, by what the code finds.
+-- The writers' rows: two lists of them, rows 9 and 20 of the input writer by what the code finds, and what was judged before.
 -- Assumes nothing.
 use Prim.Native.Nat.{ℕ, _+_, _*_, _-_, _/_, _%_, _≤_, _<_}
 use mathlib.Core.Path.{_≡_, refl, _∙_, ap, ap₂}
-use mathlib.Core.Bool.{not, _||_}
-use mathlib.Core.List.{List, [], _++_}
+use mathlib.Core.Bool.{true, not, _||_}
+use mathlib.Core.List.{List, [], _∷_, _++_}
 use native.Mathlib.Omega.{arith}
 use borrow.Author.Tests.{ne-eqb, eq-eqb, lt-ltb, le-ltb}
 use lib.Dec.{eqb, ltb, eqb→eq, nltb→le}
 use lib.ListN.{length}
+use Rattle.meaning.specs.declared.Link.{Link}
 use Rattle.meaning.specs.declared.Judged.{Judged}
 use Rattle.meaning.specs.declared.Judged.the-variants.{Accepted, Refused}
 use Rattle.meaning.specs.Judge.{refuse, first}
 use Rattle.meaning.proofs.Tests.{taut, so, _⊃_}
+use Rattle.meaning.specs.Tally.{pairTally}
+use Rattle.weighing.specs.Links.{tableRows}
 use Rattle.weighing.specs.Records.{firstOf}
 use Rattle.cutting.specs.Record.{entrySize}
-use Rattle.cutting.specs.Rows.{recordRow}
+use Rattle.cutting.specs.Rows.{recordRow, recordRows}
 use Rattle.texts.specs.declared.Written.{Written}
 use Rattle.texts.specs.declared.Written.the-variants.{Bytes, Refused as Refused·written}
-use Rattle.texts.specs.Writers.{over, headLine, cutLines, closeLine, inputSize, laterRows, wrote, around, Begun, linksLeft}
+use Rattle.texts.specs.Reader.{put}
+use Rattle.texts.specs.Writers.{over, headLine, cutLines, closeLine, inputSize, resultText, resultRows, laterRows, wrote, Writes, around, Begun, linksLeft}
 use Rattle.texts.proofs.Writes.{onto, length-over}
 use Rattle.texts.proofs.WritesLines.{length-head, length-cuts}
 use Rattle.texts.proofs.RoundTripRead.{row-accepted}
+
+-- the first refusal of two lists of rows
+pub first-both : (js ks : List Judged) → first (js ++ ks) ≡ firstOf (first js) (first ks)
+unfolding first firstOf
+first-both [] ks = refl
+first-both (Accepted ∷ js) ks = first-both js ks
+first-both (Refused number place ∷ js) ks = refl
 
 module _ (n count : ℕ) (bytes : List ℕ) (room : ℕ) where
   pub later-uneven : (length bytes % entrySize ≡ 0 → ⊥) → Refused 9 0 ≡ first (laterRows n count bytes room)
@@ -108,3 +119,27 @@ pub begun-after : (i j : Judged) (n k count : ℕ) (bytes room room′ : List �
     → Begun (firstOf i j) n k count bytes room room′ r
 unfolding firstOf
 begun-after i j n k count bytes room room′ r e b = rw e b
+
+-- a writer after rows that were judged before
+pub writes-refused : (i j : Judged) (text room : List ℕ) {number place : ℕ} → i ≡ Refused number place → Writes (firstOf i j) text room room (Refused·written number place)
+unfolding firstOf wrote put
+writes-refused i j text room e = rw e (record { answer = refl; text-left = refl })
+
+pub writes-after : (i j : Judged) (text room room′ : List ℕ) (r : Written) → i ≡ Accepted → Writes j text room room′ r → Writes (firstOf i j) text room room′ r
+unfolding firstOf
+writes-after i j text room room′ r e w = rw e w
+
+-- the result writer's rows: 1 to 6, 9 to 13, and 20
+one-row : (j : Judged) → first (j ∷ []) ≡ j
+unfolding first
+one-row Accepted = refl
+one-row (Refused number place) = refl
+
+pub result-rows : (n k : ℕ) (links : List Link) (bytes : List ℕ) (room : ℕ)
+    → first (resultRows n k links bytes room)
+    ≡ firstOf (firstOf (first (tableRows n k true links)) (first (recordRows n (pairTally links) k bytes))) (refuse (ltb room (length (resultText n k bytes))) 20 0)
+unfolding resultRows
+result-rows n k links bytes room =
+    let last = refuse (ltb room (length (resultText n k bytes))) 20 0 in
+    first-both (tableRows n k true links ++ recordRows n (pairTally links) k bytes) (last ∷ [])
+    ∙ ap₂ firstOf (first-both (tableRows n k true links) (recordRows n (pairTally links) k bytes)) (one-row last)

@@ -14,7 +14,7 @@ use Rattle.meaning.specs.Heap.{Heap, start, left}
 use Rattle.weighing.specs.Links.{tableRows}
 use Rattle.weighing.specs.Side.{heapOf}
 use Rattle.cutting.specs.Record.{entrySize, cutsOf}
-use Rattle.cutting.specs.Rows.{recordRow, entriesRows}
+use Rattle.cutting.specs.Rows.{recordRow, recordRows}
 use Rattle.texts.specs.declared.Written.{Written}
 use Rattle.texts.specs.declared.Written.the-variants.{Bytes, Refused as Refused·written}
 use Rattle.texts.specs.Frame.{line}
@@ -79,11 +79,7 @@ inputRows n k links bytes room =
 
 unfoldable pub resultRows : ℕ → ℕ → List Link → List ℕ → ℕ → List Judged
 resultRows n k links bytes room =
-    tableRows n k true links
-    ++ recordRow n (length bytes)
-    ∷ entriesRows n (pairTally links) k start 0 (cutsOf bytes)
-    ++ refuse (ltb room (length (resultText n k bytes))) 20 0
-    ∷ []
+    tableRows n k true links ++ recordRows n (pairTally links) k bytes ++ refuse (ltb room (length (resultText n k bytes))) 20 0 ∷ []
 
 unfoldable pub wrote : Judged → ℕ → Written
 wrote Accepted count = Bytes count

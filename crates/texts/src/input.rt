@@ -1,11 +1,11 @@
 // The input writer: head, links, cuts, close. Its links are lent as records, which only `put_links` goes through; the frames around them are
 // written first, and leave room for them.
 use super::Written;
-use super::kinds::ENTRY;
 use super::kinds::put_close;
 use super::kinds::put_cuts;
 use super::kinds::put_head;
 use super::kinds::put_link;
+use cutting::record::Record;
 use meaning::Judged;
 use meaning::Link;
 use weighing::records::judge_records;
@@ -31,8 +31,8 @@ fn judge_later(n: u64, count: usize, bytes: &[u8], room: usize) -> Judged
     requires { ⌜ (0 < n) × (n ≤ 128) × (count ≤ 4096) ⌝ }
     ensures { λ r. ⌜ r ≡ first (laterRows n count (now (bytes .entry)) room) ⌝ }
 {
-    let cuts = bytes.len() / ENTRY;
-    if bytes.len() % ENTRY != 0 {
+    let cuts = bytes.len() / Record::ENTRY;
+    if bytes.len() % Record::ENTRY != 0 {
         return Judged::Refused {
             number: 9,
             place: 0,
@@ -61,7 +61,7 @@ fn put_around(text: &mut [u8], n: u64, k: u64, count: usize, bytes: &[u8])
 {
     let links = put_head(text, 0, n, k);
     let close = put_cuts(text, links + 13 * count, bytes);
-    let frames = 1 + count + bytes.len() / ENTRY;
+    let frames = 1 + count + bytes.len() / Record::ENTRY;
     put_close(text, close, frames as u64);
 }
 
@@ -76,7 +76,7 @@ fn begin_judged(n: u64, k: u64, count: usize, bytes: &[u8], text: &mut [u8]) -> 
         Judged::Accepted => {
             put_around(text, n, k, count, bytes);
             Written::Bytes {
-                count: size_of(count, bytes.len() / ENTRY) as u32,
+                count: size_of(count, bytes.len() / Record::ENTRY) as u32,
             }
         },
     }

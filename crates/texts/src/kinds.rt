@@ -1,15 +1,13 @@
 // The lines of each kind, written at a place of lent room: head, link, cuts, labels, close, and the frame of a refusal. Each gives the
 // place behind what it wrote.
 use super::write::put_line;
+use cutting::record::Record;
 ghost use mathlib.Core.Path.{_≡_};
 ghost use Prim.Native.Nat.{_+_, _*_, _/_, _%_, _≤_, _<_};
 ghost use lib.ListN.{length};
 ghost use Rattle.weighing.specs.Side.{heapOf};
 ghost use Rattle.cutting.specs.Record.{entrySize};
 ghost use Rattle.texts.specs.Writers.{over, headLine, linkLine, cutLines, labelLine, labelLines, closeLine, refusalLine};
-
-// The bytes of one entry.
-pub(crate) const ENTRY: usize = 21;
 
 // The two bytes of a number.
 fn high(m: u64) -> u8
@@ -49,12 +47,12 @@ pub(crate) fn put_cuts(room: &mut [u8], at: usize, bytes: &[u8]) -> usize
     requires { ⌜ at + 47 * (length (now bytes) / entrySize) ≤ length (now room) ⌝ }
     ensures { λ r. ⌜ (r ≡ at + 47 * (length (now (bytes .entry)) / entrySize)) × (now (room .exit) ≡ over (now (room .entry)) at (cutLines (length (now (bytes .entry)) / entrySize) (now (bytes .entry)))) ⌝ }
 {
-    let cuts = bytes.len() / ENTRY;
+    let cuts = bytes.len() / Record::ENTRY;
     let mut next = at;
     let mut i = 0;
     while i < cuts {
-        let from = ENTRY * i;
-        let to = from + ENTRY;
+        let from = Record::ENTRY * i;
+        let to = from + Record::ENTRY;
         next = put_line(room, next, 3, &bytes[from..to]);
         i += 1;
     }

@@ -1,39 +1,31 @@
+-- `input::judge_later` meets its contract. Assumes nothing.
 use native.Mathlib.Omega.{arith}
 use borrow.Author.Needs.{needs}
 use Rattle.texts.proofs.WritesRows.{later-uneven, later-many, later-short, later-fine}
 use Rattle.texts.proofs.input.judge_later.Statement.{statement}
 use Rattle.texts.proofs.input.judge_later.Tie as tie
-use Rattle.texts.proofs.input.judge_later.Reads as reads
-use Rattle.texts.proofs.input.judge_later.Lts as lts
-use Rattle.texts.proofs.input.size_of.Reads as size-of-reads
 
--- src/input.rt:35:9
 returns : tie.Need-returns
 returns c =
     let a = c .before .before .args in
     later-uneven (a .n) (a .count) (a .bytes .now) (a .room) (c .if1 .taken)
 
--- src/input.rt:40:8
 sub-if2 : tie.Need-sub-if2
 sub-if2 c = search needs
 
--- src/input.rt:41:9
 returns-2 : tie.Need-returns-2
 returns-2 c =
     let a = c .before .before .before .args in
     later-many (a .n) (a .count) (a .bytes .now) (a .room) (omega arith) (c .if2 .taken)
 
--- src/input.rt:46:15
 size-of-requires : tie.Need-size-of-requires
 size-of-requires c κs = search needs
 
--- src/input.rt:47:9
 returns-3 : tie.Need-returns-3
 returns-3 c =
     let a = c .before .before .before .before .before .args in
     later-short (a .n) (a .count) (a .bytes .now) (a .room) (omega arith) (omega arith) (omega arith)
 
--- src/input.rt:29:1
 returns-4 : tie.Need-returns-4
 returns-4 c =
     let a = c .before .before .before .before .before .args in

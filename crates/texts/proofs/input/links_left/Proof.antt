@@ -1,23 +1,18 @@
+-- `input::links_left` meets its contract. Assumes nothing.
 use borrow.Author.Needs.{needs}
 use Rattle.texts.proofs.WritesRows.{left-all, left-none}
 use Rattle.texts.proofs.input.links_left.Statement.{statement}
 use Rattle.texts.proofs.input.links_left.Tie as tie
-use Rattle.texts.proofs.input.links_left.Reads as reads
-use Rattle.texts.proofs.input.links_left.Lts as lts
 
--- src/input.rt:100:40
 enum-told : tie.Need-enum-told
 enum-told c = search needs
 
--- src/input.rt:104:14
 enum-told-2 : tie.Need-enum-told-2
 enum-told-2 c = search needs
 
--- src/input.rt:96:1
 returns : tie.Need-returns
 returns c = left-all _ (c .enum-told .given .1)
 
--- src/input.rt:96:1
 returns-2 : tie.Need-returns-2
 returns-2 c = left-none _ (c .enum-told2 .given .1)
 

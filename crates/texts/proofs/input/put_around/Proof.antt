@@ -1,3 +1,4 @@
+-- `input::put_around` meets its contract. Assumes nothing.
 use mathlib.Core.Path.{refl}
 use native.Mathlib.Omega.{arith}
 use borrow.Author.Needs.{needs}
@@ -5,28 +6,19 @@ use lib.ListN.{length}
 use Rattle.texts.proofs.WritesRows.{later-accepted, around-made}
 use Rattle.texts.proofs.input.put_around.Statement.{statement}
 use Rattle.texts.proofs.input.put_around.Tie as tie
-use Rattle.texts.proofs.input.put_around.Reads as reads
-use Rattle.texts.proofs.input.put_around.Lts as lts
-use Rattle.texts.proofs.kinds.put_close.Reads as put-close-reads
-use Rattle.texts.proofs.kinds.put_cuts.Reads as put-cuts-reads
-use Rattle.texts.proofs.kinds.put_head.Reads as put-head-reads
 
--- src/input.rt:61:9
 put-head-requires : tie.Need-put-head-requires
 put-head-requires c κs =
     let s = c .before .before .before in
     let later = later-accepted (s .args .n) (s .args .count) (s .args .bytes .now) (length (s .args .text .now)) (s .pre .1) in
     (omega (arith, s .pre .0 .bones), s .pre .0 .threshold, omega (arith, later .fits))
 
--- src/input.rt:62:40
 mul-put-cuts : tie.Need-mul-put-cuts
 mul-put-cuts c = search needs
 
--- src/input.rt:62:32
 add-put-cuts : tie.Need-add-put-cuts
 add-put-cuts c = search needs
 
--- src/input.rt:62:9
 put-cuts-requires : tie.Need-put-cuts-requires
 put-cuts-requires c κs =
     let s = c .before .before .before .before .before .before .before in
@@ -34,15 +26,12 @@ put-cuts-requires c κs =
     let later = later-accepted (s .args .n) (s .args .count) (s .args .bytes .now) (length (s .args .text .now)) (s .pre .1) in
     omega (arith, later .fits, head .ensures .0, head .kept .0)
 
--- src/input.rt:63:18
 add-frames : tie.Need-add-frames
 add-frames c = search needs
 
--- src/input.rt:63:18
 add-frames-2 : tie.Need-add-frames-2
 add-frames-2 c = search needs
 
--- src/input.rt:64:5
 put-close-requires : tie.Need-put-close-requires
 put-close-requires c κs =
     let s = c .before .before .before .before .before .before .before .before .before .before .before in
@@ -53,11 +42,9 @@ put-close-requires c κs =
       omega (arith, later .fits, head .ensures .0, head .kept .0, cuts .ensures .0, cuts .kept .0),
     )
 
--- src/input.rt:56:1
 same-length : tie.Need-same-length
 same-length c = search needs
 
--- src/input.rt:56:1
 returns : tie.Need-returns
 returns c =
     let s = c .before .before .before .before .before .before .before .before .before .before .before .before .before .before in

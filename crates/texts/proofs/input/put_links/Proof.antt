@@ -51,7 +51,8 @@ use Rattle.weighing.proofs.records.link_at.Symbol as at-def
 use Rattle.weighing.proofs.records.link_at.Symbol.{name as #link-at}
 use Rattle.weighing.proofs.records.link_at.Met as at-thm
 use Rattle.texts.proofs.WritesLinks.{linked, linked-none, linked-more, linked-long, linked-room}
-use Rattle.texts.proofs.WritesRecord.{OwnText, PutRecord, calls-put}
+use Rattle.texts.proofs.WritesLent.{OwnText}
+use Rattle.texts.proofs.WritesRecord.{PutRecord, calls-put}
 use Rattle.texts.proofs.input.put_record.Symbol as put-def
 use Rattle.texts.proofs.input.put_record.Symbol.{name as #put-record}
 use Rattle.texts.proofs.input.put_record.Met as put-thm

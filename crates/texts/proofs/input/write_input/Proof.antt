@@ -27,7 +27,6 @@ use types.Run.{look, store, init, forget, stop, hop, fld, from, load, addr, and-
 use sound.WpLaws.{fmOf, WpFn-mono}
 use denote.RattleType.{RattleType, owns}
 use denote.Laws.{Is, Tells, Makes}
-use denote.Enum.Laws as EL
 use denote.Plain.{uint-vals, uint-tells, uint-makes}
 use denote.Builtin.{u8, u64, usize, unit}
 use denote.Ref.{RefT}
@@ -55,8 +54,7 @@ use Rattle.weighing.proofs.records.judge_records.Symbol.{name as #judge-records
 use Rattle.weighing.proofs.records.judge_records.Met as jud-thm
 use Rattle.texts.specs.declared.Written.{Written}
 use Rattle.texts.specs.Writers.{laterRows, Begun, linksLeft}
-use Rattle.texts.proofs.Written as Wr
-use Rattle.texts.proofs.Written.Laws as Wr′
+use Rattle.texts.proofs.WritesAnswer.{Wn, said, IsWritten, said-so, unit-so, typed-written, made-written}
 use Rattle.texts.proofs.WritesLinks.{linked, linked-long}
 use Rattle.texts.proofs.WritesInput.{judgedInput, counts, begun-long, left-fits, input-done}
 use Rattle.texts.proofs.WritesLent.{OwnText, textRef, Twin, Asks, calls-lent}
@@ -76,32 +74,6 @@ use Rattle.texts.proofs.input.write_input.Key.{name as #write-input}
 use Rattle.texts.proofs.input.write_input as f
 use Rattle.texts.proofs.input.write_input.Statement as stated
 use Rattle.texts.proofs.input.write_input.Code as code
-
--- ---- what a writer answers, as the walk sees it
-abbrev Wn : RattleType
-Wn = Wr.the-row
-
-abbrev written : Ty
-written = Wr′.mir
-
-abbrev said : Written → Val
-said = Wr′.lowered
-
-abbrev IsWritten : Written → Type 0
-IsWritten r = Is Wn r (said r ∷ [])
-
-said-so : Tells Wn (Is Wn) (λ r. said r ∷ [])
-said-so = Wr′.lowers .val-is
-
-unit-so : Tells unit (Is unit) (λ r. vunit ∷ [])
-unit-so r vs is = is
-
-module _ {M : Type 1} (𝓤 : URA M) (H : Heap 𝓤) (A : Atoms 𝓤) (W : Given 𝓤 H A) where
-  typed-written : (r : Written) → IsWritten r → T (hasTy written (said r)) × WT (said r)
-  typed-written r is = EL.lawful Wr.the-type Wr′.the-laws 𝓤 H A W tt .typed r _ is .0
-
-  made-written : Makes 𝓤 H A Wn (Is Wn)
-  made-written = EL.makes Wr.the-type Wr′.the-plain 𝓤 H A
 
 abbrev stayed : Stays (f.ended .signature .params) (f.ended .kept)
 stayed =
