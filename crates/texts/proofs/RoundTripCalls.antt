@@ -22,7 +22,8 @@ use Rattle.texts.specs.declared.Reading.{Reading}
 use Rattle.texts.specs.declared.Reading.the-variants.{Got}
 use Rattle.texts.specs.declared.Written.{Written}
 use Rattle.texts.specs.declared.Written.the-variants.{Bytes as Wrote}
-use Rattle.texts.specs.Lines.{Line, linesOf, opening, lineRows}
+use Rattle.texts.specs.declared.stage.Stage.the-variants.{Opening}
+use Rattle.texts.specs.Lines.{Line, linesOf, lineRows}
 use Rattle.texts.specs.Reader.{linksIn, entriesIn, bonesIn, thresholdIn, readerRows, read, put, Reads}
 use Rattle.texts.specs.Writers.{inputText, inputRows, unnoted, wrote, Writes}
 use Rattle.texts.proofs.Frames.{Bytes}
@@ -81,7 +82,7 @@ module _ (n k : ℕ) (links : List Link) (bytes : List ℕ) (room : ℕ) (a : Ac
       let many = ap length (links-back n k links bytes (a .fits)) in
       let long = ap length (entries-back n k links bytes (a .fits)) in
       passes _ 15 0 _ (within 65536 (length text) (omega (arith, length-input n k links bytes, a .few-links, a .few-entries)))
-      ∙ first-accepted (lineRows opening 0 (linesOf text)) _ (rows-passed n k links bytes (a .fits))
+      ∙ first-accepted (lineRows Opening 0 (linesOf text)) _ (rows-passed n k links bytes (a .fits))
       ∙ passes _ 3 0 _ (within 4096 (length (linksIn (linesOf text))) (omega (arith, a .few-links)))
       ∙ passes _ 9 0 _ (within (entrySize * 127) (length (entriesIn (linesOf text))) (omega (arith, a .few-entries)))
       ∙ passes _ 14 0 _ (within linkRoom (length (linksIn (linesOf text))) (omega arith))
@@ -151,10 +152,10 @@ write-read n k links bytes room room′ count s f w linkSpace linkSpace′ space
     )
 
 -- a text that the reader accepts passes rows 16 to 19
-pub lines-accepted : (text : List ℕ) (linkRoom recordRoom : ℕ) → first (readerRows text linkRoom recordRoom) ≡ Accepted → first (lineRows opening 0 (linesOf text)) ≡ Accepted
+pub lines-accepted : (text : List ℕ) (linkRoom recordRoom : ℕ) → first (readerRows text linkRoom recordRoom) ≡ Accepted → first (lineRows Opening 0 (linesOf text)) ≡ Accepted
 unfolding readerRows
 lines-accepted text linkRoom recordRoom e =
-    accepted-left (lineRows opening 0 (linesOf text)) _ (row-accepted (ltb 65536 (length text)) 15 0 _ e .1)
+    accepted-left (lineRows Opening 0 (linesOf text)) _ (row-accepted (ltb 65536 (length text)) 15 0 _ e .1)
 
 -- what is written of a text that the reader read
 pub read-write : (text : List ℕ) (linkSpace linkSpace′ : List Link) (space space′ : List ℕ) (n k l c : ℕ)
@@ -174,7 +175,7 @@ read-write text linkSpace linkSpace′ space space′ n k l c reads t room room�
     let l-is : l ≡ length (linksIn ls) = cc in
     let c-is : c ≡ length (entriesIn ls) / entrySize = cc in
     let rows = lines-accepted text (length linkSpace) (length space) yes in
-    let whole = entries-whole opening 0 ls rows in
+    let whole = entries-whole Opening 0 ls rows in
     let size : entrySize * c ≡ length (entriesIn ls) = omega arith in
     let links-are : take l linkSpace′ ≡ linksIn ls = ap₂ take l-is (back .1) ∙ take-append-seam (linksIn ls) (drop (length (linksIn ls)) linkSpace) in
     let entries-are : take (entrySize * c) space′ ≡ entriesIn ls = ap₂ take size (back .2) ∙ take-append-seam (entriesIn ls) (drop (length (entriesIn ls)) space) in

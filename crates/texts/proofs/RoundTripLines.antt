@@ -12,7 +12,8 @@ use Rattle.meaning.specs.declared.Judged.the-variants.{Accepted, Refused}
 use Rattle.meaning.specs.Judge.{refuse, first}
 use Rattle.meaning.proofs.Tests.{is-true, is-false, eq→eqb}
 use Rattle.texts.specs.Frame.{payloads, isKind, byteSum, hex, line, wellFormed}
-use Rattle.texts.specs.Lines.{Line, linesOf, frame, kind, pair, Stage, follows, after, lineRows}
+use Rattle.texts.specs.declared.stage.Stage.{Stage}
+use Rattle.texts.specs.Lines.{Line, linesOf, frame, kind, pair, follows, after, lineRows}
 use Rattle.texts.proofs.Frames.{Bytes, whole, whole-bytes, whole-sum, line-means, line-well, isHex-hex}
 use Rattle.texts.proofs.Lines.{lines-ended, plain-digits}
 

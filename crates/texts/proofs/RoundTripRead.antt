@@ -16,7 +16,9 @@ use Rattle.meaning.specs.Judge.{refuse, first}
 use Rattle.meaning.proofs.Tests.{left-of, right-of, either, eq→eqb, neqb→ne, is-true, is-false, decide, taut, so, _⊃_}
 use Rattle.cutting.specs.Record.{entrySize}
 use Rattle.texts.specs.Frame.{payloads, byteSum, line, wellFormed}
-use Rattle.texts.specs.Lines.{Line, before, linesOf, frame, kind, pair, Stage, opening, linking, cutting, closed, follows, after, open-at, lineRows}
+use Rattle.texts.specs.declared.stage.Stage.{Stage}
+use Rattle.texts.specs.declared.stage.Stage.the-variants.{Opening, Linking, Cutting, Closed}
+use Rattle.texts.specs.Lines.{Line, before, linesOf, frame, kind, pair, follows, after, open-at, lineRows}
 use Rattle.texts.specs.Reader.{linkIn, linksIn, entryIn, entriesIn, bonesIn, thresholdIn}
 use Rattle.texts.specs.Writers.{two, headLine, linkLine, linkLines, cutLines, closeLine, inputText, unnoted}
 use Rattle.texts.proofs.Frames.{Bytes, bytes-bytesOf, well-parts, line-only}
@@ -166,10 +168,10 @@ entries-whole stage i (l ∷ ls) e =
     (decide (eqb (kind l) 3))
 
 -- nothing stands after the close
-nothing-after : (i : ℕ) (ls : List Line) → first (lineRows closed i ls) ≡ Accepted → ls ≡ []
+nothing-after : (i : ℕ) (ls : List Line) → first (lineRows Closed i ls) ≡ Accepted → ls ≡ []
 unfolding follows
 nothing-after i [] e = refl
-nothing-after i (l ∷ ls) e = absurd (passed closed i l ls e .order)
+nothing-after i (l ∷ ls) e = absurd (passed Closed i l ls e .order)
 
 -- what a line adds to the links and the entries, by its kind
 links-by : (l : Line) (ls : List Line) (c : ℕ) → kind l ≡ c → linksIn (l ∷ ls) ≡ cond (eqb c 2) (linkIn l ∷ linksIn ls) (linksIn ls)
@@ -205,10 +207,10 @@ record Closed (i : ℕ) (ls : List Line) : Type 0 where
   no-links : linksIn ls ≡ []
 
 module _ (stage : Stage) (i : ℕ) (l : Line) (ls : List Line) (p : Passed stage i l ls) where
-  at-close : kind l ≡ 6 → after stage 6 ≡ closed → Closed i (l ∷ ls)
+  at-close : kind l ≡ 6 → after stage 6 ≡ Closed → Closed i (l ∷ ls)
   unfolding joined linksIn entriesIn
   at-close e f =
-      let stop : after stage (kind l) ≡ closed = ap (after stage) e ∙ f in
+      let stop : after stage (kind l) ≡ Closed = ap (after stage) e ∙ f in
       let none : ls ≡ [] = nothing-after (suc i) ls (subst (λ (s : Stage). first (lineRows s (suc i) ls) ≡ Accepted) stop (p .rest)) in
       record {
         text =
@@ -243,17 +245,17 @@ rest-at : (stage : Stage) (i : ℕ) (l : Line) (ls : List Line) (c : ℕ) → Pa
 rest-at stage i l ls c p e = subst (λ (x : ℕ). first (lineRows (after stage x) (suc i) ls) ≡ Accepted) e (p .rest)
 
 -- after a cut: cuts and a close
-cutting-step : (i : ℕ) (l : Line) (ls : List Line) → Passed cutting i l ls → T (unnoted (l ∷ ls))
-    → (first (lineRows cutting (suc i) ls) ≡ Accepted → Closed (suc i) ls)
+cutting-step : (i : ℕ) (l : Line) (ls : List Line) → Passed Cutting i l ls → T (unnoted (l ∷ ls))
+    → (first (lineRows Cutting (suc i) ls) ≡ Accepted → Closed (suc i) ls)
     → Closed i (l ∷ ls)
 unfolding follows after
 cutting-step i l ls p t ih =
     ⊎-elim
-    (λ c. let e = eqb→eq (kind l) 3 c in at-cut cutting i l ls p e (ih (rest-at cutting i l ls 3 p e)))
+    (λ c. let e = eqb→eq (kind l) 3 c in at-cut Cutting i l ls p e (ih (rest-at Cutting i l ls 3 p e)))
     (λ d.
     ⊎-elim
-    (λ c. absurd (no-note cutting i l ls p t (eqb→eq (kind l) 5 c)))
-    (λ c. at-close cutting i l ls p (eqb→eq (kind l) 6 c) refl)
+    (λ c. absurd (no-note Cutting i l ls p t (eqb→eq (kind l) 5 c)))
+    (λ c. at-close Cutting i l ls p (eqb→eq (kind l) 6 c) refl)
     (either (eqb (kind l) 5) (eqb (kind l) 6) d))
     (either (eqb (kind l) 3) (eqb (kind l) 5 || eqb (kind l) 6) (p .order))
 
@@ -261,10 +263,10 @@ unclosed : (stage : Stage) (i : ℕ) → T (open-at stage) → first (lineRows s
 unfolding lineRows
 unclosed stage i t e = T-not (open-at stage) (row-accepted (open-at stage) 18 i [] e .0) t
 
-cutting-back : (ls : List Line) (i : ℕ) → first (lineRows cutting i ls) ≡ Accepted → T (unnoted ls) → Closed i ls
+cutting-back : (ls : List Line) (i : ℕ) → first (lineRows Cutting i ls) ≡ Accepted → T (unnoted ls) → Closed i ls
 unfolding open-at
-cutting-back [] i e t = absurd (unclosed cutting i tt e)
-cutting-back (l ∷ ls) i e t = cutting-step i l ls (passed cutting i l ls e) t (λ h. cutting-back ls (suc i) h (unnoted-rest l ls t))
+cutting-back [] i e t = absurd (unclosed Cutting i tt e)
+cutting-back (l ∷ ls) i e t = cutting-step i l ls (passed Cutting i l ls e) t (λ h. cutting-back ls (suc i) h (unnoted-rest l ls t))
 
 -- after the head: links, cuts and a close
 Linked : ℕ → List Line → Type 0
@@ -278,49 +280,49 @@ unlinked i ls c =
     ∙ ap (λ (x : ℕ). closing x (entriesIn ls)) e
     ∙ sym (ap (λ (xs : List Link). linkLines xs ++ closing (i + length xs) (entriesIn ls)) (c .no-links))
 
-at-link : (i : ℕ) (l : Line) (ls : List Line) → Passed linking i l ls → kind l ≡ 2 → Linked (suc i) ls → Linked i (l ∷ ls)
+at-link : (i : ℕ) (l : Line) (ls : List Line) → Passed Linking i l ls → kind l ≡ 2 → Linked (suc i) ls → Linked i (l ∷ ls)
 unfolding Linked linkLines
 at-link i l ls p e h =
     let count : suc i + length (linksIn ls) ≡ i + suc (length (linksIn ls)) = omega arith in
-    link-back linking i l ls p e
+    link-back Linking i l ls p e
     ∙ ap (λ (xs : List ℕ). linkLine (linkIn l) ++ xs) (h ∙ ap (λ (x : ℕ). linkLines (linksIn ls) ++ closing x (entriesIn ls)) count)
     ∙ sym (append-assoc (linkLine (linkIn l)) (linkLines (linksIn ls)) (closing (i + suc (length (linksIn ls))) (entriesIn ls)))
     ∙ sym (ap₂ (λ (xs : List Link) (es : List ℕ). linkLines xs ++ closing (i + length xs) es) (links-by l ls 2 e) (entries-by l ls 2 e))
 
-linking-step : (i : ℕ) (l : Line) (ls : List Line) → Passed linking i l ls → T (unnoted (l ∷ ls))
-    → (first (lineRows linking (suc i) ls) ≡ Accepted → Linked (suc i) ls)
+linking-step : (i : ℕ) (l : Line) (ls : List Line) → Passed Linking i l ls → T (unnoted (l ∷ ls))
+    → (first (lineRows Linking (suc i) ls) ≡ Accepted → Linked (suc i) ls)
     → Linked i (l ∷ ls)
 unfolding follows after
 linking-step i l ls p t ih =
     ⊎-elim
     (λ d.
     ⊎-elim
-    (λ c. let e = eqb→eq (kind l) 2 c in at-link i l ls p e (ih (rest-at linking i l ls 2 p e)))
+    (λ c. let e = eqb→eq (kind l) 2 c in at-link i l ls p e (ih (rest-at Linking i l ls 2 p e)))
     (λ c.
     let e = eqb→eq (kind l) 3 c in
-    unlinked i (l ∷ ls) (at-cut linking i l ls p e (cutting-back ls (suc i) (rest-at linking i l ls 3 p e) (unnoted-rest l ls t))))
+    unlinked i (l ∷ ls) (at-cut Linking i l ls p e (cutting-back ls (suc i) (rest-at Linking i l ls 3 p e) (unnoted-rest l ls t))))
     (either (eqb (kind l) 2) (eqb (kind l) 3) d))
     (λ d.
     ⊎-elim
-    (λ c. absurd (no-note linking i l ls p t (eqb→eq (kind l) 5 c)))
-    (λ c. unlinked i (l ∷ ls) (at-close linking i l ls p (eqb→eq (kind l) 6 c) refl))
+    (λ c. absurd (no-note Linking i l ls p t (eqb→eq (kind l) 5 c)))
+    (λ c. unlinked i (l ∷ ls) (at-close Linking i l ls p (eqb→eq (kind l) 6 c) refl))
     (either (eqb (kind l) 5) (eqb (kind l) 6) d))
     (either (eqb (kind l) 2 || eqb (kind l) 3) (eqb (kind l) 5 || eqb (kind l) 6) (p .order))
 
-linking-back : (ls : List Line) (i : ℕ) → first (lineRows linking i ls) ≡ Accepted → T (unnoted ls) → Linked i ls
+linking-back : (ls : List Line) (i : ℕ) → first (lineRows Linking i ls) ≡ Accepted → T (unnoted ls) → Linked i ls
 unfolding open-at
-linking-back [] i e t = absurd (unclosed linking i tt e)
-linking-back (l ∷ ls) i e t = linking-step i l ls (passed linking i l ls e) t (λ h. linking-back ls (suc i) h (unnoted-rest l ls t))
+linking-back [] i e t = absurd (unclosed Linking i tt e)
+linking-back (l ∷ ls) i e t = linking-step i l ls (passed Linking i l ls e) t (λ h. linking-back ls (suc i) h (unnoted-rest l ls t))
 
 -- the whole text
-opening-back : (ls : List Line) → first (lineRows opening 0 ls) ≡ Accepted → T (unnoted ls)
+opening-back : (ls : List Line) → first (lineRows Opening 0 ls) ≡ Accepted → T (unnoted ls)
     → joined ls ≡ inputText (bonesIn ls) (thresholdIn ls) (linksIn ls) (entriesIn ls)
 unfolding open-at after follows bonesIn thresholdIn inputText Linked closing
-opening-back [] e t = absurd (unclosed opening 0 tt e)
+opening-back [] e t = absurd (unclosed Opening 0 tt e)
 opening-back (l ∷ ls) e t =
-    let p = passed opening 0 l ls e in
+    let p = passed Opening 0 l ls e in
     let one = eqb→eq (kind l) 1 (p .order) in
-    head-back opening 0 l ls p one
+    head-back Opening 0 l ls p one
     ∙ ap (λ (xs : List ℕ). headLine (getD (frame l) 1 0) (pair l 2) ++ xs) (linking-back ls 1 (p .rest) (unnoted-rest l ls t))
     ∙ regroup (headLine (getD (frame l) 1 0) (pair l 2)) (linkLines (linksIn ls)) (cutLines (length (entriesIn ls) / entrySize) (entriesIn ls)) _
     ∙ sym (ap₂ (inputText (getD (frame l) 1 0) (pair l 2)) (links-by l ls 1 one) (entries-by l ls 1 one))
@@ -328,6 +330,6 @@ opening-back (l ∷ ls) e t =
     regroup : (a b c d : List ℕ) → a ++ (b ++ (c ++ d)) ≡ a ++ b ++ c ++ d
     regroup a b c d = simp append-assoc
 
-pub text-back : (text : List ℕ) → first (lineRows opening 0 (linesOf text)) ≡ Accepted → T (unnoted (linesOf text))
+pub text-back : (text : List ℕ) → first (lineRows Opening 0 (linesOf text)) ≡ Accepted → T (unnoted (linesOf text))
     → text ≡ inputText (bonesIn (linesOf text)) (thresholdIn (linesOf text)) (linksIn (linesOf text)) (entriesIn (linesOf text))
 text-back text e t = sym (joined-lines text) ∙ opening-back (linesOf text) e t

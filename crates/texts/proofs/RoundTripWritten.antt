@@ -14,7 +14,9 @@ use Rattle.meaning.specs.Judge.{refuse, first}
 use Rattle.meaning.proofs.Tests.{eq→eqb}
 use Rattle.cutting.specs.Record.{entrySize}
 use Rattle.texts.specs.Frame.{isKind, line}
-use Rattle.texts.specs.Lines.{Line, linesOf, frame, kind, pair, Stage, opening, linking, cutting, closed, follows, after, open-at, lineRows}
+use Rattle.texts.specs.declared.stage.Stage.{Stage}
+use Rattle.texts.specs.declared.stage.Stage.the-variants.{Opening, Linking, Cutting, Closed}
+use Rattle.texts.specs.Lines.{Line, linesOf, frame, kind, pair, follows, after, open-at, lineRows}
 use Rattle.texts.specs.Reader.{linkIn, linksIn, entryIn, entriesIn, bonesIn, thresholdIn}
 use Rattle.texts.specs.Writers.{two, headLine, linkLine, linkLines, cutLines, closeLine, inputText}
 use Rattle.texts.proofs.Frames.{Bytes, whole}
@@ -92,14 +94,14 @@ links-entries [] ls s = refl
 links-entries (l ∷ links) ls s = rw (kind-is 2 (linkBytes l) (linkBytes-are l (s .0))) (links-entries links ls (s .1))
 
 links-rows : (links : List Link) (i : ℕ) (ls : List Line) → Smalls links
-    → first (lineRows linking i (linkLs links ++ ls)) ≡ first (lineRows linking (i + length links) ls)
+    → first (lineRows Linking i (linkLs links ++ ls)) ≡ first (lineRows Linking (i + length links) ls)
 unfolding follows after isKind two
-links-rows [] i ls s = let e : i ≡ i + 0 = omega arith in ap (λ (m : ℕ). first (lineRows linking m ls)) e
+links-rows [] i ls s = let e : i ≡ i + 0 = omega arith in ap (λ (m : ℕ). first (lineRows Linking m ls)) e
 links-rows (l ∷ links) i ls s =
     let e : suc i + length links ≡ i + suc (length links) = omega arith in
-    row-passed 2 (linkBytes l) (linkBytes-are l (s .0)) tt refl linking i (linkLs links ++ ls) tt tt
+    row-passed 2 (linkBytes l) (linkBytes-are l (s .0)) tt refl Linking i (linkLs links ++ ls) tt tt
     ∙ links-rows links (suc i) ls (s .1)
-    ∙ ap (λ (m : ℕ). first (lineRows linking m ls)) e
+    ∙ ap (λ (m : ℕ). first (lineRows Linking m ls)) e
 
 -- cuts: so many whole entries
 abbrev cutLs : ℕ → List ℕ → List Line
@@ -155,20 +157,20 @@ cut-passed m bytes i ls stage t f h =
     row-passed 3 (take entrySize bytes) (cutBytes-are bytes f) tt (entry-long m bytes f h) stage i (cutLs m (drop entrySize bytes) ++ ls) t tt
 
 cuts-rows : (m : ℕ) (bytes : List ℕ) (i : ℕ) (ls : List Line) → Bytes bytes → entrySize * m ≤ length bytes
-    → first (lineRows cutting i (cutLs m bytes ++ ls)) ≡ first (lineRows cutting (i + m) ls)
+    → first (lineRows Cutting i (cutLs m bytes ++ ls)) ≡ first (lineRows Cutting (i + m) ls)
 unfolding follows after
-cuts-rows zero bytes i ls f h = let e : i ≡ i + 0 = omega arith in ap (λ (m : ℕ). first (lineRows cutting m ls)) e
+cuts-rows zero bytes i ls f h = let e : i ≡ i + 0 = omega arith in ap (λ (m : ℕ). first (lineRows Cutting m ls)) e
 cuts-rows (suc m) bytes i ls f h =
     let e : suc i + m ≡ i + suc m = omega arith in
-    cut-passed m bytes i ls cutting tt f h
+    cut-passed m bytes i ls Cutting tt f h
     ∙ cuts-rows m (drop entrySize bytes) (suc i) ls (bytes-drop entrySize bytes f) (entries-left m bytes f h)
-    ∙ ap (λ (x : ℕ). first (lineRows cutting x ls)) e
+    ∙ ap (λ (x : ℕ). first (lineRows Cutting x ls)) e
 
 -- the close, after the links or after a cut
 closeBytes-are : (i : ℕ) → i < 65536 → Bytes (6 ∷ two i)
 closeBytes-are i h = bytes-cons 6 (two i) (omega arith) (bytes-two i h)
 
-close-rows : (i : ℕ) (stage : Stage) → i < 65536 → T (follows stage 6) → after stage 6 ≡ closed → first (lineRows stage i (lineOf 6 (two i) ∷ [])) ≡ Accepted
+close-rows : (i : ℕ) (stage : Stage) → i < 65536 → T (follows stage 6) → after stage 6 ≡ Closed → first (lineRows stage i (lineOf 6 (two i) ∷ [])) ≡ Accepted
 unfolding isKind two lineRows open-at refuse first
 close-rows i stage h t e =
     let count : pair (lineOf 6 (two i)) 1 ≡ i = pair-is 6 (two i) (closeBytes-are i h) 1 ∙ omega arith in
@@ -176,17 +178,17 @@ close-rows i stage h t e =
     ∙ ap (λ (s : Stage). first (lineRows s (suc i) [])) e
 
 ending-rows : (m : ℕ) (bytes : List ℕ) (i : ℕ) → Bytes bytes → entrySize * m ≤ length bytes → i + m < 65536
-    → first (lineRows linking i (cutLs m bytes ++ lineOf 6 (two (i + m)) ∷ [])) ≡ Accepted
+    → first (lineRows Linking i (cutLs m bytes ++ lineOf 6 (two (i + m)) ∷ [])) ≡ Accepted
 unfolding follows after
 ending-rows zero bytes i f h k =
     let e : i + 0 ≡ i = omega arith in
-    ap (λ (m : ℕ). first (lineRows linking i (lineOf 6 (two m) ∷ []))) e ∙ close-rows i linking (omega arith) tt refl
+    ap (λ (m : ℕ). first (lineRows Linking i (lineOf 6 (two m) ∷ []))) e ∙ close-rows i Linking (omega arith) tt refl
 ending-rows (suc m) bytes i f h k =
     let e : suc i + m ≡ i + suc m = omega arith in
-    cut-passed m bytes i (lineOf 6 (two (i + suc m)) ∷ []) linking tt f h
+    cut-passed m bytes i (lineOf 6 (two (i + suc m)) ∷ []) Linking tt f h
     ∙ cuts-rows m (drop entrySize bytes) (suc i) (lineOf 6 (two (i + suc m)) ∷ []) (bytes-drop entrySize bytes f) (entries-left m bytes f h)
-    ∙ ap (λ (x : ℕ). first (lineRows cutting x (lineOf 6 (two (i + suc m)) ∷ []))) e
-    ∙ close-rows (i + suc m) cutting k tt refl
+    ∙ ap (λ (x : ℕ). first (lineRows Cutting x (lineOf 6 (two (i + suc m)) ∷ []))) e
+    ∙ close-rows (i + suc m) Cutting k tt refl
 
 -- the whole text: what it is written from fits its frames
 pub record Written (n k : ℕ) (links : List Link) (bytes : List ℕ) : Type 0 where
@@ -227,11 +229,11 @@ module _ (n k : ℕ) (links : List Link) (bytes : List ℕ) (w : Written n k lin
       regroup : (a b c d : List ℕ) → a ++ b ++ c ++ d ≡ a ++ (b ++ (c ++ d))
       regroup a b c d = simp append-assoc
 
-  pub rows-passed : first (lineRows opening 0 (linesOf (inputText n k links bytes))) ≡ Accepted
+  pub rows-passed : first (lineRows Opening 0 (linesOf (inputText n k links bytes))) ≡ Accepted
   unfolding isKind two follows after ending cuts
   rows-passed =
-      ap (λ (ls : List Line). first (lineRows opening 0 ls)) text-lines
-      ∙ row-passed 1 (n ∷ two k) headBytes-are tt refl opening 0 (linkLs links ++ ending) tt tt
+      ap (λ (ls : List Line). first (lineRows Opening 0 ls)) text-lines
+      ∙ row-passed 1 (n ∷ two k) headBytes-are tt refl Opening 0 (linkLs links ++ ending) tt tt
       ∙ links-rows links 1 ending (w .tallies)
       ∙ ending-rows cuts bytes (1 + length links) (w .entries) (omega (arith, whole-entries)) (w .frames)
 

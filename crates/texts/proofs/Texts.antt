@@ -15,7 +15,7 @@ use Rattle.texts.specs.declared.Reading.{Reading}
 use Rattle.texts.specs.declared.Reading.the-variants.{Got}
 use Rattle.texts.specs.declared.Written.{Written}
 use Rattle.texts.specs.declared.Written.the-variants.{Bytes as Wrote}
-use Rattle.texts.specs.Lines.{linesOf, opening, lineRows}
+use Rattle.texts.specs.Lines.{linesOf, lineRows}
 use Rattle.texts.specs.Reader.{linksIn, entriesIn, bonesIn, thresholdIn, readerRows, Reads}
 use Rattle.texts.specs.Writers.{inputText, resultText, inputRows, unnoted, Writes}
 use Rattle.texts.proofs.Frames.{Bytes}
