@@ -202,12 +202,12 @@ closing-more i e es h =
     ∙ append-assoc (line 3 e) (cutLines m es) (closeLine (suc i + m))
 
 -- lines that are cuts and a close, with no links among them
-record Closed (i : ℕ) (ls : List Line) : Type 0 where
+record AtClose (i : ℕ) (ls : List Line) : Type 0 where
   text : joined ls ≡ closing i (entriesIn ls)
   no-links : linksIn ls ≡ []
 
 module _ (stage : Stage) (i : ℕ) (l : Line) (ls : List Line) (p : Passed stage i l ls) where
-  at-close : kind l ≡ 6 → after stage 6 ≡ Closed → Closed i (l ∷ ls)
+  at-close : kind l ≡ 6 → after stage 6 ≡ Closed → AtClose i (l ∷ ls)
   unfolding joined linksIn entriesIn
   at-close e f =
       let stop : after stage (kind l) ≡ Closed = ap (after stage) e ∙ f in
@@ -222,7 +222,7 @@ module _ (stage : Stage) (i : ℕ) (l : Line) (ls : List Line) (p : Passed stage
         no-links = links-by l ls 6 e ∙ ap linksIn none;
       }
 
-  at-cut : kind l ≡ 3 → Closed (suc i) ls → Closed i (l ∷ ls)
+  at-cut : kind l ≡ 3 → AtClose (suc i) ls → AtClose i (l ∷ ls)
   at-cut e c =
       record {
         text =
@@ -246,8 +246,8 @@ rest-at stage i l ls c p e = subst (λ (x : ℕ). first (lineRows (after stage x
 
 -- after a cut: cuts and a close
 cutting-step : (i : ℕ) (l : Line) (ls : List Line) → Passed Cutting i l ls → T (unnoted (l ∷ ls))
-    → (first (lineRows Cutting (suc i) ls) ≡ Accepted → Closed (suc i) ls)
-    → Closed i (l ∷ ls)
+    → (first (lineRows Cutting (suc i) ls) ≡ Accepted → AtClose (suc i) ls)
+    → AtClose i (l ∷ ls)
 unfolding follows after
 cutting-step i l ls p t ih =
     ⊎-elim
@@ -263,7 +263,7 @@ unclosed : (stage : Stage) (i : ℕ) → T (open-at stage) → first (lineRows s
 unfolding lineRows
 unclosed stage i t e = T-not (open-at stage) (row-accepted (open-at stage) 18 i [] e .0) t
 
-cutting-back : (ls : List Line) (i : ℕ) → first (lineRows Cutting i ls) ≡ Accepted → T (unnoted ls) → Closed i ls
+cutting-back : (ls : List Line) (i : ℕ) → first (lineRows Cutting i ls) ≡ Accepted → T (unnoted ls) → AtClose i ls
 unfolding open-at
 cutting-back [] i e t = absurd (unclosed Cutting i tt e)
 cutting-back (l ∷ ls) i e t = cutting-step i l ls (passed Cutting i l ls e) t (λ h. cutting-back ls (suc i) h (unnoted-rest l ls t))
@@ -272,7 +272,7 @@ cutting-back (l ∷ ls) i e t = cutting-step i l ls (passed Cutting i l ls e) t 
 Linked : ℕ → List Line → Type 0
 Linked i ls = joined ls ≡ linkLines (linksIn ls) ++ closing (i + length (linksIn ls)) (entriesIn ls)
 
-unlinked : (i : ℕ) (ls : List Line) → Closed i ls → Linked i ls
+unlinked : (i : ℕ) (ls : List Line) → AtClose i ls → Linked i ls
 unfolding Linked linkLines
 unlinked i ls c =
     let e : i ≡ i + 0 = omega arith in
