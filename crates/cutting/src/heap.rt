@@ -47,11 +47,11 @@ pub(crate) fn part(names: &mut [u8; 128], n: usize, entry: Entry)
 }
 
 // A bone's name.
-fn name_of(names: &[u8; 128], b: usize) -> u8
-    requires { ⌜ b < 128 ⌝ }
-    ensures { λ r. ⌜ r ≡ getD (now (names .entry)) b 0 ⌝ }
+fn name_of(names: &[u8; 128], bone: usize) -> u8
+    requires { ⌜ bone < 128 ⌝ }
+    ensures { λ r. ⌜ r ≡ getD (now (names .entry)) bone 0 ⌝ }
 {
-    names[b]
+    names[bone]
 }
 
 // The names of bones 0 to n − 1 go to the label space.
