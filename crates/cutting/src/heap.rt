@@ -3,9 +3,9 @@ use crate::record::Entry;
 use weighing::in_side;
 ghost use mathlib.Core.Path.{_≡_};
 ghost use mathlib.Core.Bool.{cond};
-ghost use Prim.Native.Nat.{_≤_};
+ghost use Prim.Native.Nat.{_≤_, _<_};
 ghost use lib.Dec.{eqb};
-ghost use lib.ListN.{length};
+ghost use lib.ListN.{length, getD};
 ghost use Rattle.meaning.specs.Count.{least};
 ghost use Rattle.meaning.specs.Heap.{parted, piles};
 ghost use Rattle.weighing.specs.Side.{heapOf, sideOf};
@@ -46,13 +46,23 @@ pub(crate) fn part(names: &mut [u8; 128], n: usize, entry: Entry)
     }
 }
 
+// A bone's name.
+fn name_of(names: &[u8; 128], bone: usize) -> u8
+    requires { ⌜ bone < 128 ⌝ }
+    ensures { λ r. ⌜ r ≡ getD (now (names .entry)) bone 0 ⌝ }
+{
+    names[bone]
+}
+
 // The names of bones 0 to n − 1 go to the label space.
 pub(crate) fn write_names(names: &[u8; 128], n: usize, labels: &mut [u8])
     requires { ⌜ (n ≤ 128) × (n ≤ length (now labels)) ⌝ }
     ensures { λ _. ⌜ now (labels .exit) ≡ written n (heapOf (now (names .entry))) (now (labels .entry)) ⌝ }
 {
-    for b in 0..n {
-        labels[b] = names[b];
+    let mut at = 0;
+    while at < n {
+        labels[at] = name_of(names, at);
+        at += 1;
     }
 }
 
