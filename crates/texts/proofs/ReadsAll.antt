@@ -67,9 +67,9 @@ module _ {A : Type 0} (given room : List A) where
 -- what a reading has to store, by its judgement
 record Held (text : List ℕ) (j : Judged) (links : List Link) (space : List ℕ) (count cuts : ℕ) : Type 0 where
   pub links-ok : Storable text count (length (linksIn (linesOf text))) (length links)
-  pub cuts-ok : Storable text (cuts * 21) (length (entriesIn (linesOf text))) (length space)
+  pub cuts-ok : Storable text (cuts * entrySize) (length (entriesIn (linesOf text))) (length space)
   pub links-put : take count (linksIn (linesOf text)) ++ drop count links ≡ put j (linksIn (linesOf text)) links
-  pub cuts-put : take (cuts * 21) (entriesIn (linesOf text)) ++ drop (cuts * 21) space ≡ put j (entriesIn (linesOf text)) space
+  pub cuts-put : take (cuts * entrySize) (entriesIn (linesOf text)) ++ drop (cuts * entrySize) space ≡ put j (entriesIn (linesOf text)) space
 
 held-by : (text : List ℕ) (links : List Link) (space : List ℕ) (j : Judged) → first (readerRows text (length links) (length space)) ≡ j → (r : Reading) → r ≡ read j (linesOf text)
     → Held text j links space (linksOf r) (cutsHeld r)
@@ -77,21 +77,21 @@ unfolding read linksOf cutsHeld
 held-by text links space Accepted e r q =
     let f = accepted-fits text (length links) (length space) e in
     let l : linksOf r ≡ length (linksIn (linesOf text)) = ap linksOf q in
-    let c : cutsHeld r * 21 ≡ length (entriesIn (linesOf text)) = omega (arith, ap cutsHeld q, entries-whole (linesOf text) (f .well)) in
+    let c : cutsHeld r * entrySize ≡ length (entriesIn (linesOf text)) = omega (arith, ap cutsHeld q, entries-whole (linesOf text) (f .well)) in
     record {
       links-ok = record { fits = omega (arith, f .links); whole = λ _. (f .well, sym l) };
       cuts-ok = record { fits = omega (arith, f .entries); whole = λ _. (f .well, sym c) };
       links-put = put-all (linksIn (linesOf text)) links (linksOf r) l;
-      cuts-put = put-all (entriesIn (linesOf text)) space (cutsHeld r * 21) c;
+      cuts-put = put-all (entriesIn (linesOf text)) space (cutsHeld r * entrySize) c;
     }
 held-by text links space (Refused number place) e r q =
     let l : linksOf r ≡ 0 = ap linksOf q in
-    let c : cutsHeld r * 21 ≡ 0 = omega (arith, ap cutsHeld q) in
+    let c : cutsHeld r * entrySize ≡ 0 = omega (arith, ap cutsHeld q) in
     record {
       links-ok = record { fits = omega arith; whole = λ h. absurd (omega arith) };
       cuts-ok = record { fits = omega arith; whole = λ h. absurd (omega arith) };
       links-put = put-none (linksIn (linesOf text)) links (linksOf r) number place l;
-      cuts-put = put-none (entriesIn (linesOf text)) space (cutsHeld r * 21) number place c;
+      cuts-put = put-none (entriesIn (linesOf text)) space (cutsHeld r * entrySize) number place c;
     }
 
 -- storing keeps the size of the room
@@ -109,8 +109,14 @@ module _ (text : List ℕ) (links : List Link) (space : List ℕ) (r : Reading) 
   pub links-ok : Storable text (linksOf r) (length (linksIn (linesOf text))) (length links)
   links-ok = held .links-ok
 
-  pub cuts-ok : Storable text (cutsHeld r * 21) (length (entriesIn (linesOf text))) (length space)
+  pub cuts-ok : Storable text (cutsHeld r * entrySize) (length (entriesIn (linesOf text))) (length space)
   cuts-ok = held .cuts-ok
 
-  pub reads-so : Reads text links (take (linksOf r) (linksIn (linesOf text)) ++ drop (linksOf r) links) space (take (cutsHeld r * 21) (entriesIn (linesOf text)) ++ drop (cutsHeld r * 21) space) r
+  pub reads-so : Reads text links (take (linksOf r) (linksIn (linesOf text)) ++ drop (linksOf r) links) space (take (cutsHeld r * entrySize) (entriesIn (linesOf text)) ++ drop (cutsHeld r * entrySize) space) r
   reads-so = record { answer = e; links-left = held .links-put; record-left = held .cuts-put }
+
+-- the reader's promise leaves no choice: the answer and both rooms follow from the text and the rooms lent
+pub reads-once : (text : List ℕ) (links links₁ links₂ : List Link) (space space₁ space₂ : List ℕ) (r₁ r₂ : Reading)
+    → Reads text links links₁ space space₁ r₁ → Reads text links links₂ space space₂ r₂ → (r₁ ≡ r₂) × (links₁ ≡ links₂) × (space₁ ≡ space₂)
+reads-once text links links₁ links₂ space space₁ space₂ r₁ r₂ p q =
+    (p .answer ∙ sym (q .answer), p .links-left ∙ sym (q .links-left), p .record-left ∙ sym (q .record-left))

@@ -85,8 +85,8 @@ pub record StoringLinks (text : List ℕ) (old room : List Link) (count at done 
 pub record StoringCuts (text : List ℕ) (old room : List ℕ) (cuts at done : ℕ) : Type 0 where
   pub within : at ≤ length text
   pub well : T (allWell (linesOf (drop at text)))
-  pub total : done * 21 + length (entriesIn (linesOf (drop at text))) ≡ cuts * 21
-  pub putting : Putting (entriesIn (linesOf text)) (entriesIn (linesOf (drop at text))) old room (done * 21)
+  pub total : done * entrySize + length (entriesIn (linesOf (drop at text))) ≡ cuts * entrySize
+  pub putting : Putting (entriesIn (linesOf text)) (entriesIn (linesOf (drop at text))) old room (done * entrySize)
 
 -- where there are links, or entries, there are lines
 lines-of-links : (ls : List Line) → 0 < length (linksIn ls) → 0 < length ls
@@ -133,7 +133,7 @@ module _ (text : List ℕ) (at p : ℕ) (s : Skipped text at 3 p) (more : 0 < le
   pub cut-kind : byteAt (drop p text) 0 ≡ 3
   cut-kind = skipped-kind text at 3 p s cut-lines
 
-  pub cut-next : (next : ℕ) → next ≡ p + 2 * sizeAt (drop p text) + 1 → entriesIn (linesOf (drop at text)) ≡ payloadAt (drop p text) 21 ++ entriesIn (linesOf (drop next text))
+  pub cut-next : (next : ℕ) → next ≡ p + 2 * sizeAt (drop p text) + 1 → entriesIn (linesOf (drop at text)) ≡ payloadAt (drop p text) entrySize ++ entriesIn (linesOf (drop next text))
   cut-next next e =
       sym found-entries
       ∙ entries-front (drop p text) cut-well cut-kind
@@ -180,7 +180,7 @@ module _ (text : List ℕ) (old room : List Link) (count at done : ℕ) (g : Sto
   links-end h = putting-all (linksIn (linesOf text)) (linksIn (linesOf (drop at text))) old room done count (g .putting) (omega (arith, g .total)) (omega (arith, g .total))
 
 -- storing entries: the start, one more, the end
-pub cuts-start : (text old : List ℕ) (cuts : ℕ) → Storable text (cuts * 21) (length (entriesIn (linesOf text))) (length old) → 0 < cuts → StoringCuts text old old cuts 0 0
+pub cuts-start : (text old : List ℕ) (cuts : ℕ) → Storable text (cuts * entrySize) (length (entriesIn (linesOf text))) (length old) → 0 < cuts → StoringCuts text old old cuts 0 0
 cuts-start text old cuts st h =
     let w = st .whole (omega arith) in
     record { within = omega arith; well = w .0; total = omega (arith, w .1); putting = putting-none (entriesIn (linesOf text)) old (omega (arith, w .1, st .fits)) }
@@ -189,28 +189,28 @@ module _ (text old room : List ℕ) (cuts at done : ℕ) (g : StoringCuts text o
   pub cuts-left : done < cuts → 0 < length (entriesIn (linesOf (drop at text)))
   cuts-left h = omega (arith, g .total)
 
-  pub cuts-room : done < cuts → done * 21 + 21 ≤ length room
+  pub cuts-room : done < cuts → done * entrySize + entrySize ≤ length room
   cuts-room h = omega (arith, g .total, g .putting .fits, g .putting .same-size)
 
   pub cuts-more : done < cuts → (p : ℕ) → Skipped text at 3 p → (next : ℕ) → next ≡ p + 2 * sizeAt (drop p text) + 1 → (room′ : List ℕ)
-      → room′ ≡ take (done * 21) room ++ payloadAt (drop p text) 21 ++ drop (done * 21 + 21) room → StoringCuts text old room′ cuts next (done + 1)
+      → room′ ≡ take (done * entrySize) room ++ payloadAt (drop p text) entrySize ++ drop (done * entrySize + entrySize) room → StoringCuts text old room′ cuts next (done + 1)
   cuts-more h p s next e room′ r =
       let left = cuts-left h in
       let taken = cut-next text at p s left next e in
       let behind = skipped-rest text at 3 p s (cut-lines text at p s left) next e in
-      let n : (done + 1) * 21 ≡ done * 21 + 21 = omega arith in
+      let n : (done + 1) * entrySize ≡ done * entrySize + entrySize = omega arith in
       record {
         within = behind .0;
         well = behind .1;
-        total = omega (arith, g .total, ap length taken, length-append (payloadAt (drop p text) 21) (entriesIn (linesOf (drop next text))), payload-length (drop p text) 21);
+        total = omega (arith, g .total, ap length taken, length-append (payloadAt (drop p text) entrySize) (entriesIn (linesOf (drop next text))), payload-length (drop p text) entrySize);
         putting =
-            putting-more (entriesIn (linesOf text)) (entriesIn (linesOf (drop at text))) (entriesIn (linesOf (drop next text))) old room room′ (payloadAt (drop p text) 21) (done * 21) ((done + 1) * 21)
-            (g .putting) taken (n ∙ ap (λ (m : ℕ). done * 21 + m) (sym (payload-length (drop p text) 21)))
-            (r ∙ ap (λ (m : ℕ). take (done * 21) room ++ payloadAt (drop p text) 21 ++ drop m room) (sym n));
+            putting-more (entriesIn (linesOf text)) (entriesIn (linesOf (drop at text))) (entriesIn (linesOf (drop next text))) old room room′ (payloadAt (drop p text) entrySize) (done * entrySize) ((done + 1) * entrySize)
+            (g .putting) taken (n ∙ ap (λ (m : ℕ). done * entrySize + m) (sym (payload-length (drop p text) entrySize)))
+            (r ∙ ap (λ (m : ℕ). take (done * entrySize) room ++ payloadAt (drop p text) entrySize ++ drop m room) (sym n));
       }
 
-  pub cuts-end : cuts ≤ done → room ≡ take (cuts * 21) (entriesIn (linesOf text)) ++ drop (cuts * 21) old
-  cuts-end h = putting-all (entriesIn (linesOf text)) (entriesIn (linesOf (drop at text))) old room (done * 21) (cuts * 21) (g .putting) (omega (arith, g .total)) (omega (arith, g .total))
+  pub cuts-end : cuts ≤ done → room ≡ take (cuts * entrySize) (entriesIn (linesOf text)) ++ drop (cuts * entrySize) old
+  cuts-end h = putting-all (entriesIn (linesOf text)) (entriesIn (linesOf (drop at text))) old room (done * entrySize) (cuts * entrySize) (g .putting) (omega (arith, g .total)) (omega (arith, g .total))
 
 -- storing, also where nothing is to be stored: then the room is as it was
 pub record CutsSoFar (text old room : List ℕ) (cuts at done : ℕ) : Type 0 where
@@ -226,11 +226,11 @@ none-or-some zero = inl refl
 none-or-some (suc n) = inr (omega arith)
 
 pub cuts-stored : (text old room : List ℕ) (cuts at done : ℕ) → CutsSoFar text old room cuts at done → cuts ≤ done
-    → room ≡ take (cuts * 21) (entriesIn (linesOf text)) ++ drop (cuts * 21) old
+    → room ≡ take (cuts * entrySize) (entriesIn (linesOf text)) ++ drop (cuts * entrySize) old
 cuts-stored text old room cuts at done g h =
     ⊎-elim
     (λ e.
-    let z : 0 ≡ cuts * 21 = omega arith in
+    let z : 0 ≡ cuts * entrySize = omega arith in
     g .none e ∙ ap (λ (m : ℕ). take m (entriesIn (linesOf text)) ++ drop m old) z)
     (λ l. cuts-end text old room cuts at done (g .some l) h)
     (none-or-some cuts)

@@ -166,7 +166,7 @@ module _ (text : List ℕ) (lent room : ℕ) (small : length text ≤ 65536) (n 
   pub links-read : length (linksIn (linesOf text)) ≡ links
   links-read = sym (told-got (linesOf text) n k links cuts all-read .0)
 
-  pub entries-read : length (entriesIn (linesOf text)) ≡ cuts * 21
+  pub entries-read : length (entriesIn (linesOf text)) ≡ cuts * entrySize
   entries-read =
       omega (arith, told-got (linesOf text) n k links cuts all-read .1, entries-whole (linesOf text) (accepted-well (linesOf text) Opening 0 lines-accepted))
 
@@ -209,13 +209,13 @@ module _ (text : List ℕ) (lent room : ℕ) (small : length text ≤ 65536) (n 
       ∙ row-passes (ltb lent (length (linksIn (linesOf text)))) 14 0 (drop 3 (counts (linesOf text) lent room))
       (under lent (length (linksIn (linesOf text))) (omega (arith, links-read)))
 
-  pub by-8 : links ≤ 4096 → cuts ≤ 127 → links ≤ lent → room < cuts * 21 → Refused·reading 8 0 ≡ read (first (readerRows text lent room)) (linesOf text)
+  pub by-8 : links ≤ 4096 → cuts ≤ 127 → links ≤ lent → room < cuts * entrySize → Refused·reading 8 0 ≡ read (first (readerRows text lent room)) (linesOf text)
   by-8 a b c h =
       answered 8
       (past-14 a b c
       ∙ row-applies (ltb room (length (entriesIn (linesOf text)))) 8 0 [] (lt→ltb room (length (entriesIn (linesOf text))) (omega (arith, entries-read))))
 
-  pub by-none : links ≤ 4096 → cuts ≤ 127 → links ≤ lent → cuts * 21 ≤ room → Got n k links cuts ≡ read (first (readerRows text lent room)) (linesOf text)
+  pub by-none : links ≤ 4096 → cuts ≤ 127 → links ≤ lent → cuts * entrySize ≤ room → Got n k links cuts ≡ read (first (readerRows text lent room)) (linesOf text)
   unfolding first
   by-none a b c d =
       all-read

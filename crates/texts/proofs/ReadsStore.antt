@@ -111,12 +111,12 @@ payload-at cs (suc m) i h =
     (eq-or-lt-of-le (le-of-suc-le-suc h))
 
 -- the entry of a cut's frame is its payload
-pub entry-payload : (cs : List ℕ) → Well cs → byteAt cs 0 ≡ 3 → entryIn (front cs) ≡ payloadAt cs 21
+pub entry-payload : (cs : List ℕ) → Well cs → byteAt cs 0 ≡ 3 → entryIn (front cs) ≡ payloadAt cs entrySize
 entry-payload cs w e =
-    ext-getD 0 (entryIn (front cs)) (payloadAt cs 21) (entry-length cs w e ∙ sym (payload-length cs 21))
+    ext-getD 0 (entryIn (front cs)) (payloadAt cs entrySize) (entry-length cs w e ∙ sym (payload-length cs entrySize))
     (λ i h.
-    let l : i < 21 = omega (arith, entry-length cs w e) in
-    entry-at cs w e i l ∙ ap (byteAt cs) (omega arith) ∙ sym (payload-at cs 21 i l))
+    let l : i < entrySize = omega (arith, entry-length cs w e) in
+    entry-at cs w e i l ∙ ap (byteAt cs) (omega arith) ∙ sym (payload-at cs entrySize i l))
 
 -- bytes put into room from a place on, the rest as it was
 abbrev pub stored : List ℕ → List ℕ → ℕ → ℕ → List ℕ

@@ -11,6 +11,7 @@ ghost use Rattle.texts.specs.Judging.{LineJudged, Ready, Advanced};
 use crate::Reading;
 use crate::frame::Frame;
 use crate::stage::Stage;
+use cutting::record::Record;
 
 // How far judging has come: the place in the text, the line, the stage, the head's numbers, and the links and cuts so far.
 pub(crate) struct Progress {
@@ -173,7 +174,7 @@ pub fn judge(text: &[u8], lent: usize, room: usize) -> Reading
                     place: 0,
                 };
             }
-            if room < cuts as usize * 21 {
+            if room < cuts as usize * Record::ENTRY {
                 return Reading::Refused {
                     number: 8,
                     place: 0,

@@ -5,6 +5,7 @@ ghost use Prim.Native.Nat.{_+_, _*_, _<_, _≤_};
 ghost use lib.Dec.{T};
 ghost use lib.ListN.{length, getD, take, drop};
 ghost use Rattle.weighing.specs.Records.{noLink};
+ghost use Rattle.cutting.specs.Record.{entrySize};
 ghost use Rattle.texts.specs.Lines.{linesOf};
 ghost use Rattle.texts.specs.Reader.{linksIn, entriesIn};
 ghost use Rattle.texts.specs.Walk.{byteAt, sizeAt, Well};
@@ -14,6 +15,7 @@ use crate::Reading;
 use crate::frame::byte_at;
 use crate::frame::number_at;
 use crate::frame::payload;
+use cutting::record::Record;
 use meaning::Link;
 
 // The place behind the frame at a place.
@@ -69,11 +71,11 @@ pub(crate) fn link_past(text: &[u8], at: usize) -> usize
 
 // The entry of the frame at a place, put into the record space.
 fn store_entry(text: &[u8], at: usize, space: &mut [u8], to: usize)
-    requires { ⌜ Well (drop at (now text)) × (byteAt (drop at (now text)) 0 ≡ 3) × (to + 21 ≤ length (now space)) ⌝ }
-    ensures { λ _. ⌜ now (space .exit) ≡ take to (now (space .entry)) ++ payloadAt (drop at (now (text .entry))) 21 ++ drop (to + 21) (now (space .entry)) ⌝ }
+    requires { ⌜ Well (drop at (now text)) × (byteAt (drop at (now text)) 0 ≡ 3) × (to + entrySize ≤ length (now space)) ⌝ }
+    ensures { λ _. ⌜ now (space .exit) ≡ take to (now (space .entry)) ++ payloadAt (drop at (now (text .entry))) entrySize ++ drop (to + entrySize) (now (space .entry)) ⌝ }
 {
     let mut i = 0;
-    while i < 21 {
+    while i < Record::ENTRY {
         space[to + i] = byte_at(text, at, i + 1);
         i += 1;
     }
@@ -81,14 +83,14 @@ fn store_entry(text: &[u8], at: usize, space: &mut [u8], to: usize)
 
 // So many entries of a text that was judged, put at the front of the record space; the rest of it stays.
 pub(crate) fn store_entries(text: &[u8], space: &mut [u8], cuts: usize)
-    requires { ⌜ Storable (now text) (cuts * 21) (length (entriesIn (linesOf (now text)))) (length (now space)) ⌝ }
-    ensures { λ _. ⌜ now (space .exit) ≡ take (cuts * 21) (entriesIn (linesOf (now (text .entry)))) ++ drop (cuts * 21) (now (space .entry)) ⌝ }
+    requires { ⌜ Storable (now text) (cuts * entrySize) (length (entriesIn (linesOf (now text)))) (length (now space)) ⌝ }
+    ensures { λ _. ⌜ now (space .exit) ≡ take (cuts * entrySize) (entriesIn (linesOf (now (text .entry)))) ++ drop (cuts * entrySize) (now (space .entry)) ⌝ }
 {
     let mut at = 0;
     let mut i = 0;
     while i < cuts {
         let here = find_kind(text, at, 3);
-        store_entry(text, here, space, i * 21);
+        store_entry(text, here, space, i * Record::ENTRY);
         at = line_after(text, here);
         i += 1;
     }

@@ -41,6 +41,7 @@ use Rattle.meaning.specs.declared.Link.{Link}
 use Rattle.meaning.specs.Judge.{first as first-of}
 use Rattle.weighing.proofs.RecordsLink.{R}
 use Rattle.weighing.proofs.RecordsCalls.{calls-to, calls-plain, calls-over}
+use Rattle.cutting.specs.Record.{entrySize}
 use Rattle.texts.specs.declared.Reading.{Reading}
 use Rattle.texts.specs.Lines.{linesOf}
 use Rattle.texts.specs.Reader.{linksIn, entriesIn, readerRows, read as reads}
@@ -135,7 +136,7 @@ module _ {M : Type 1} (𝓤 : URA M) (H : Heap 𝓤) (A : Atoms 𝓤) (W : Given
   zs′ j = take (linksOf j) (linksIn (linesOf text)) ++ drop (linksOf j) zs
 
   abbrev ss′ : Reading → List ℕ
-  ss′ j = take (cutsHeld j * 21) (entriesIn (linesOf text)) ++ drop (cutsHeld j * 21) ss
+  ss′ j = take (cutsHeld j * entrySize) (entriesIn (linesOf text)) ++ drop (cutsHeld j * entrySize) ss
 
   abbrev Judges : Reading → Type 0
   Judges j = j ≡ reads (first-of (readerRows text (length zs) (length ss))) (linesOf text)
@@ -145,7 +146,7 @@ module _ {M : Type 1} (𝓤 : URA M) (H : Heap 𝓤) (A : Atoms 𝓤) (W : Given
   exits j is e =
       qed W (‵ (finally u8 δ (ss′ j)) ∷ ‵ (flft κ₀ q₀) ∷ ‵ (flft κ₂ q₂) ∷ ‵ OwnText ∷ ‵ (finally R γ (zs′ j)) ∷ ‵ (flft κ₁ q₁) ∷ []) ∵
       suffices ! _ (ends-at 𝓤 H A f.ended stayed (f.clauses 𝓤 H A mem run) W bound (told j) j (tt, (zs′ j, (ss′ j, tt)))
-      (tt, (stored-size text (linksIn (linesOf text)) zs (linksOf j) (links-ok text zs ss j e), (stored-size text (entriesIn (linesOf text)) ss (cutsHeld j * 21) (cuts-ok text zs ss j e), tt)))) $ says ! (reads-so text zs ss j e) $
+      (tt, (stored-size text (linksIn (linesOf text)) zs (linksOf j) (links-ok text zs ss j e), (stored-size text (entriesIn (linesOf text)) ss (cutsHeld j * entrySize) (cuts-ok text zs ss j e), tt)))) $ says ! (reads-so text zs ss j e) $
       nothing ! $ move ! (3 ∷ 0 ∷ []) $ join ! $ move ! (5 ∷ 0 ∷ []) $ join ! $ move ! (2 ∷ 0 ∷ []) $ join ! $ frame ! $
       nothing ! $ move ! (1 ∷ 0 ∷ []) $ fjoin ! $ move ! (2 ∷ 0 ∷ []) $ fjoin ! $ move ! (1 ∷ 0 ∷ []) $ fjoin ! $ frame ! $ owned ! D (Is D) (made-reading 𝓤 H A W) j _ is $ done !
 

@@ -4,6 +4,7 @@ use mathlib.Core.Path.{_≡_, sym, _∙_, ap}
 use native.Mathlib.Omega.{arith}
 use lib.ListN.{length, drop, set, length-set}
 use borrow.Author.Needs.{needs}
+use Rattle.cutting.specs.Record.{entrySize}
 use Rattle.texts.proofs.Walks.{within}
 use Rattle.texts.proofs.ReadsStore.{stored, stored-none, stored-more, stored-length}
 use Rattle.texts.proofs.store.store_entry.Statement.{statement}
@@ -13,10 +14,10 @@ use Rattle.texts.proofs.store.store_entry.Lts as lts
 use Rattle.texts.proofs.frame.byte_at.Reads as byte-at-reads
 
 abbrev Inv-loop : tie.InvT-loop
-Inv-loop text at space₀ to i₀ space i = (i ≤ 21) × (space ≡ stored (drop at text) space₀ to i)
+Inv-loop text at space₀ to i₀ space i = (i ≤ entrySize) × (space ≡ stored (drop at text) space₀ to i)
 
 abbrev μ-loop : tie.MeasureT-loop
-μ-loop text at space₀ to i₀ space i = 21 - i
+μ-loop text at space₀ to i₀ space i = entrySize - i
 
 -- src/store.rt:59:5
 loop-holds : tie.Need-loop-holds Inv-loop μ-loop
@@ -89,7 +90,7 @@ returns c =
     let s = l .before .before .before in
     let a = s .args in
     let cs = drop (a .at) (a .text .now) in
-    let e : l .loop .i ≡ 21 = omega arith in
+    let e : l .loop .i ≡ entrySize = omega arith in
     l .loop .inv .1 ∙ ap (stored cs (a .space .now) (a .to)) e
 
 pub store-entry-spec : {M : Type 1} → statement M
