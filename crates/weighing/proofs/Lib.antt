@@ -17,6 +17,7 @@ pub mod Bits
 pub mod Searching
 pub mod Growing
 pub mod GrowRows
+pub mod GrowSteps
 pub mod GrowState
 pub mod GrowEnds
 pub mod Flowing

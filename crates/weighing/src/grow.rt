@@ -95,7 +95,8 @@ pub(crate) struct Growth {
     pub(crate) weight: u64,
 }
 
-// Bones join p as long as one is known that can, and the set so grown weighs k or more. `left` bones are free, and p's degree is `own`.
+// Bones join p as long as one is known that can, and the set so grown weighs k or more. At first `others` bones are free, and `own` is the
+// degree of p.
 fn spread(
     table: &[u32; 16384],
     names: &[u8; 128],

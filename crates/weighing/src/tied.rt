@@ -1,10 +1,11 @@
 // Which bone joins the grown set next: one that is tied to it by k, by half of its own degree, or by paths of two. The bones still free are
 // marked; `ties` has each bone's tally with the grown set.
-use crate::row::pair;
+use crate::scan::bone;
 use crate::scan::pick;
+use crate::scan::tally;
 ghost use mathlib.Core.Path.{_≡_};
 ghost use mathlib.Core.Bool.{cond, false};
-ghost use Prim.Native.Nat.{ℕ, _+_, _*_, _<_, _≤_, _^_, min};
+ghost use Prim.Native.Nat.{ℕ, _+_, _*_, _<_, _≤_, _^_};
 ghost use lib.Dec.{T};
 ghost use lib.ListN.{length, getD};
 ghost use Rattle.meaning.specs.Count.{sum};
@@ -12,7 +13,7 @@ ghost use Rattle.meaning.specs.Heap.{pile, stands};
 ghost use Rattle.weighing.specs.Table.{held};
 ghost use Rattle.weighing.specs.Side.{heapOf};
 ghost use Rattle.weighing.specs.Scan.{marked};
-ghost use Rattle.weighing.specs.Grow.{beside, steps, Spread, Tied, ByTwo, Probed, Chosen};
+ghost use Rattle.weighing.specs.Grow.{beside, by-way, rim, Listed, Spread, Tied, ByTwo, Probed, Chosen};
 
 // The first free bone that has k or more of its tally, or half of its degree, to the grown set; 128 where there is none.
 fn tied(free: &[u8; 128], degrees: &[u64; 128], ties: &[u64; 128], n: usize, k: u64) -> usize
@@ -33,39 +34,54 @@ fn tied(free: &[u8; 128], degrees: &[u64; 128], ties: &[u64; 128], n: usize, k: 
     128
 }
 
-// What a path of two by way of bone x adds, where x is free: the lesser of a tally and x's tie.
-fn step(free: &[u8; 128], ties: &[u64; 128], x: usize, tally: u64) -> u64
+// 1 where bone x is free and has a tie, else 0.
+fn on_rim(free: &[u8; 128], ties: &[u64; 128], x: usize) -> usize
     requires { ⌜ x < 128 ⌝ }
-    ensures { λ r. ⌜ (r ≡ cond (marked (now (free .entry)) x) (min tally (getD (now (ties .entry)) x 0)) 0) × (r ≤ tally) ⌝ }
+    ensures { λ r. ⌜ (r ≡ cond (rim (marked (now (free .entry))) (now (ties .entry)) x) 1 0) × (r ≤ 1) ⌝ }
 {
     if free[x] == 1 {
-        let tie = ties[x];
-        if tally < tie { tally } else { tie }
-    } else {
-        0
+        if ties[x] != 0 {
+            return 1;
+        }
     }
+    0
 }
 
-// The tie of bone v, and its paths of two by way of lesser bones.
-fn steps_below(table: &[u32; 16384], free: &[u8; 128], ties: &[u64; 128], v: usize) -> u64
-    requires { ⌜ (v < 128) × (getD (now ties) v 0 ≤ 2 ^ 40) ⌝ }
-    ensures { λ r. ⌜ (r ≡ getD (now (ties .entry)) v 0 + sum v (λ x. cond (beside (marked (now (free .entry))) v x) (min (held (now (table .entry)) v x) (getD (now (ties .entry)) x 0)) 0)) × (r ≤ 2 ^ 40 + v * 2 ^ 32) ⌝ }
+// The free bones that have a tie, listed. How many there are.
+fn list_rim(free: &[u8; 128], ties: &[u64; 128], n: usize, run: &mut [u8; 128]) -> usize
+    requires { ⌜ (n ≤ 128) × (length (now run) ≡ 128) ⌝ }
+    ensures { λ r. ⌜ Listed n (rim (marked (now (free .entry))) (now (ties .entry))) (now (run .exit)) r ⌝ }
+{
+    let mut m = 0;
+    for x in 0..n {
+        run[m] = x as u8;
+        m += on_rim(free, ties, x);
+    }
+    m
+}
+
+// What a path of two from bone v by way of bone x adds: the lesser of its two tallies.
+fn step(table: &[u32; 16384], ties: &[u64; 128], v: usize, x: usize) -> u64
+    requires { ⌜ (v < 128) × (x < 128) ⌝ }
+    ensures { λ r. ⌜ (r ≡ by-way (held (now (table .entry))) (now (ties .entry)) v x) × (r ≤ 2 ^ 32) ⌝ }
+{
+    if x == v {
+        return 0;
+    }
+    let direct = tally(table, v, x);
+    let tie = ties[x];
+    if direct < tie { direct } else { tie }
+}
+
+// The tie of bone v, and its paths of two by way of the m bones listed.
+fn steps_of(table: &[u32; 16384], run: &[u8; 128], m: usize, ties: &[u64; 128], v: usize) -> u64
+    requires { ⌜ (m ≤ 128) × (v < 128) × (getD (now ties) v 0 ≤ 2 ^ 40) ⌝ }
+    requires { ⌜ ((i : ℕ) → i < m → getD (now run) i 0 < 128) ⌝ }
+    ensures { λ r. ⌜ r ≡ getD (now (ties .entry)) v 0 + sum m (λ i. by-way (held (now (table .entry))) (now (ties .entry)) v (getD (now (run .entry)) i 0)) ⌝ }
 {
     let mut total = ties[v];
-    for x in 0..v {
-        total += step(free, ties, x, pair(table, v, x));
-    }
-    total
-}
-
-// The tie of bone v, and its paths of two to the grown set.
-fn steps_of(table: &[u32; 16384], free: &[u8; 128], ties: &[u64; 128], n: usize, v: usize) -> u64
-    requires { ⌜ (n ≤ 128) × (v < n) × (getD (now ties) v 0 ≤ 2 ^ 40) ⌝ }
-    ensures { λ r. ⌜ r ≡ steps n (held (now (table .entry))) (marked (now (free .entry))) (now (ties .entry)) v ⌝ }
-{
-    let mut total = steps_below(table, free, ties, v);
-    for x in v + 1..n {
-        total += step(free, ties, x, pair(table, x, v));
+    for i in 0..m {
+        total += step(table, ties, v, bone(run[i]));
     }
     total
 }
@@ -75,9 +91,11 @@ fn tied_by_two(table: &[u32; 16384], free: &[u8; 128], ties: &[u64; 128], n: usi
     requires { ⌜ (n ≤ 128) × ((x : ℕ) → getD (now ties) x 0 ≤ 2 ^ 40) ⌝ }
     ensures { λ r. ⌜ ByTwo n (held (now (table .entry))) k (marked (now (free .entry))) (now (ties .entry)) r ⌝ }
 {
+    let mut run = [0u8; 128];
+    let m = list_rim(free, ties, n, &mut run);
     for v in 0..n {
         if free[v] == 1 {
-            if k <= steps_of(table, free, ties, n, v) {
+            if k <= steps_of(table, &run, m, ties, v) {
                 return v;
             }
         }
