@@ -17,3 +17,4 @@ pub mod Bits
 pub mod Searching
 pub mod Growing
 pub mod Flowing
+pub mod WaysListed

@@ -1,9 +1,11 @@
 -- Tally sent from one bone to a set: pairs of bones number 0 to m − 1, with ends x and y, room c each way, and what is left of the room from
 -- x to y; what is left from y to x is the rest of twice the room.
-use Prim.Native.Nat.{ℕ, _+_, _*_, _-_, _≤_}
+use Prim.Native.Nat.{ℕ, _+_, _*_, _-_, _/_, _%_, _≤_, min}
 use mathlib.Core.Path.{_≡_}
 use mathlib.Core.Bool.{Bool, cond, not, _&&_}
+use mathlib.Core.List.{List}
 use lib.Dec.{T}
+use lib.ListN.{length, getD}
 use Rattle.meaning.specs.Count.{Bones, sum}
 use Rattle.meaning.specs.Tally.{Tally, weight}
 
@@ -27,3 +29,35 @@ Carried n w S p = (A : Bones) → leaves p (p .room) A ≤ weight n w S A
 unfoldable pub Sent : Ways → (ℕ → ℕ) → ℕ → Bones → ℕ → ℕ → ℕ → Type 0
 Sent p f t L v b d =
     (A : Bones) → T (A t) → ((l : ℕ) → T (L l) → T (not (A l))) → leaves p f A + (v + cond (A b) d 0) ≡ leaves p (p .room) A
+
+-- a pair as one number, and the pairs that a run of such numbers means
+abbrev pub wayOf : ℕ → ℕ → ℕ → ℕ
+wayOf x y room = x + 256 * y + 65536 * room
+
+unfoldable pub waysOf : List ℕ → ℕ → Ways
+waysOf ways m = record { pairs = m; x = λ q. getD ways q 0 % 256; y = λ q. getD ways q 0 / 256 % 256; room = λ q. getD ways q 0 / 65536 }
+
+-- the room of such a pair out of a side
+unfoldable pub wayOut : Bones → ℕ → ℕ
+wayOut A v = cond (A (v % 256) && not (A (v / 256 % 256))) (v / 65536) 0 + cond (A (v / 256 % 256) && not (A (v % 256))) (2 * (v / 65536) - v / 65536) 0
+
+-- the tally with no pair over k
+unfoldable pub capped : ℕ → Tally → Tally
+capped k w i j = min (w i j) k
+
+-- the pairs are those of S, each with its tally, k at most: their room out of a side is what the side weighs by that tally
+unfoldable pub Lists : ℕ → Tally → ℕ → Bones → Ways → Type 0
+Lists n w k S p = (A : Bones) → leaves p (p .room) A ≡ weight n (capped k w) S A
+
+-- what the pair of bones i and j adds to the weight of the split of S whose one side is A; and all pairs of a bone below i with a lesser
+-- one, and those of i with the bones below j
+unfoldable pub pairOut : Tally → Bones → Bones → ℕ → ℕ → ℕ
+pairOut w S A i j = cond ((S i && A i) && (S j && not (A j))) (w i j) 0 + cond ((S j && A j) && (S i && not (A i))) (w j i) 0
+
+unfoldable pub pairsOut : Tally → Bones → Bones → ℕ → ℕ → ℕ
+pairsOut w S A i j = sum i (λ a. sum a (pairOut w S A a)) + sum j (pairOut w S A i)
+
+-- a list of 448 pairs on the way: the first m are the pairs so far, unless there are too many
+pub record Listed (w : Tally) (k : ℕ) (S : Bones) (ways : List ℕ) (m i j : ℕ) : Type 0 where
+  pub long : length ways ≡ 448
+  pub lists : m ≤ 448 → (A : Bones) → leaves (waysOf ways m) (waysOf ways m .room) A ≡ pairsOut (capped k w) S A i j

@@ -6,6 +6,7 @@ mod scan;
 pub mod search;
 mod side;
 mod table;
+mod ways;
 
 pub use links::judge;
 pub use side::in_side;
