@@ -18,3 +18,5 @@ pub mod Searching
 pub mod Growing
 pub mod Flowing
 pub mod WaysListed
+pub mod ProbeSent
+pub mod ProbeWeighs

@@ -73,7 +73,7 @@ pairs-other w S A i out =
     ap-not false t h = tt
 
 -- the room of the pairs out of a side, one more pair, and that of a pair put together
-leaves-sum : (ways : List ℕ) (m : ℕ) (A : Bones) → leaves (waysOf ways m) (waysOf ways m .room) A ≡ sum m (λ q. wayOut A (getD ways q 0))
+pub leaves-sum : (ways : List ℕ) (m : ℕ) (A : Bones) → leaves (waysOf ways m) (waysOf ways m .room) A ≡ sum m (λ q. wayOut A (getD ways q 0))
 unfolding leaves waysOf wayOut
 leaves-sum ways m A = refl
 

@@ -1,6 +1,6 @@
 -- Tally sent from one bone to a set: pairs of bones number 0 to m − 1, with ends x and y, room c each way, and what is left of the room from
 -- x to y; what is left from y to x is the rest of twice the room.
-use Prim.Native.Nat.{ℕ, _+_, _*_, _-_, _/_, _%_, _≤_, min}
+use Prim.Native.Nat.{ℕ, _+_, _*_, _-_, _/_, _%_, _≤_, _<_, min}
 use mathlib.Core.Path.{_≡_}
 use mathlib.Core.Bool.{Bool, cond, not, _&&_}
 use mathlib.Core.List.{List}
@@ -8,6 +8,7 @@ use lib.Dec.{T}
 use lib.ListN.{length, getD}
 use Rattle.meaning.specs.Count.{Bones, sum}
 use Rattle.meaning.specs.Tally.{Tally, weight}
+use Rattle.weighing.specs.Scan.{marked}
 
 pub record Ways : Type 0 where
   pub pairs : ℕ
@@ -61,3 +62,34 @@ pairsOut w S A i j = sum i (λ a. sum a (pairOut w S A a)) + sum j (pairOut w S 
 pub record Listed (w : Tally) (k : ℕ) (S : Bones) (ways : List ℕ) (m i j : ℕ) : Type 0 where
   pub long : length ways ≡ 448
   pub lists : m ≤ 448 → (A : Bones) → leaves (waysOf ways m) (waysOf ways m .room) A ≡ pairsOut (capped k w) S A i j
+
+-- what a run of numbers says is left of each pair's room
+unfoldable pub leftOf : List ℕ → ℕ → ℕ
+leftOf res q = getD res q 0
+
+-- d that was on its way from bone b is on its way from bone c
+pub record Moved (p : Ways) (old new : List ℕ) (b c d : ℕ) : Type 0 where
+  pub moved : (t : ℕ) (L : Bones) (v : ℕ) → Sent p (leftOf old) t L v b d → Sent p (leftOf new) t L v c d
+
+-- d more was sent from t to L
+pub record Sends (p : Ways) (old new : List ℕ) (t : ℕ) (L : Bones) (d : ℕ) : Type 0 where
+  pub sends : (v : ℕ) → Sent p (leftOf old) t L v t 0 → Sent p (leftOf new) t L (v + d) t 0
+
+-- no bone of L is marked
+pub record Clear (L : Bones) (marks : List ℕ) : Type 0 where
+  pub long : length marks ≡ 128
+  pub clear : (b : ℕ) → T (L b) → T (not (marked marks b))
+
+-- a side that holds t and nothing of L, and its room, below k
+pub record LightMarks (p : Ways) (k t : ℕ) (L : Bones) (marks : List ℕ) (weighs : ℕ) : Type 0 where
+  pub holds : T (marked marks t)
+  pub clear : (b : ℕ) → T (L b) → T (not (marked marks b))
+  pub weighed : weighs ≡ leaves p (p .room) (marked marks)
+  pub light : weighs < k
+
+-- what a probe found, by its verdict: 1, that every side that holds t and nothing of L has room k or more; 2, a side that has less; else
+-- nothing
+pub record Probed (p : Ways) (k t : ℕ) (L : Bones) (marks : List ℕ) (verdict weighs : ℕ) : Type 0 where
+  pub long : length marks ≡ 128
+  pub heavy : verdict ≡ 1 → (A : Bones) → T (A t) → ((b : ℕ) → T (L b) → T (not (A b))) → k ≤ leaves p (p .room) A
+  pub light : verdict ≡ 2 → LightMarks p k t L marks weighs

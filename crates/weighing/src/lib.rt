@@ -2,6 +2,7 @@
 mod links;
 mod moved;
 mod pass;
+mod probe;
 mod scan;
 pub mod search;
 mod side;

@@ -1,0 +1,51 @@
+-- `weighing::probe::send` meets its contract.
+-- Assumes nothing.
+use Prim.Native.Nat.{ℕ, _+_, _-_, _≤_}
+use native.Mathlib.Omega.{arith}
+use borrow.Author.Needs.{needs}
+use Rattle.meaning.proofs.Tests.{eq→eqb}
+use Rattle.weighing.specs.Scan.{marked}
+use Rattle.weighing.proofs.ProbeSent.{moved-sends}
+use Rattle.weighing.proofs.probe.send.Statement.{statement}
+use Rattle.weighing.proofs.probe.send.Tie as tie
+use Rattle.weighing.proofs.probe.send.Reads as reads
+use Rattle.weighing.proofs.probe.send.Lts as lts
+use Rattle.weighing.proofs.probe.narrow.Reads as narrow-reads
+use Rattle.weighing.proofs.probe.walk.Reads as walk-reads
+
+element-copy-out-if2 : tie.Need-element-copy-out-if2
+element-copy-out-if2 c = search needs
+
+narrow-requires : tie.Need-narrow-requires
+narrow-requires c κs = search needs
+
+walk-requires : tie.Need-walk-requires
+walk-requires c κs = search needs
+
+returns : tie.Need-returns
+unfolding marked
+returns c = (
+  c .before .walk .ensures .0,
+  λ h. moved-sends (marked (c .before .before .before .before .before .before .before .before .args .inside .now)) (eq→eqb _ 1 (c .before .before .before .before .before .if2 .taken)) (c .before .walk .ensures .1 (c .if3 .taken)),
+)
+
+returns-2 : tie.Need-returns-2
+returns-2 c = (c .before .walk .ensures .0, λ h. absurd (omega arith))
+
+returns-3 : tie.Need-returns-3
+returns-3 c = (c .before .before .before .pre .1, λ h. absurd (omega arith))
+
+returns-4 : tie.Need-returns-4
+returns-4 c = (c .before .pre .1, λ h. absurd (omega arith))
+
+pub send-spec : {M : Type 1} → statement M
+send-spec =
+    tie.close
+    (tie.spec
+    element-copy-out-if2
+    narrow-requires
+    walk-requires
+    returns
+    returns-2
+    returns-3
+    returns-4)
