@@ -14,7 +14,7 @@ use Rattle.meaning.specs.Count.{Bones}
 use Rattle.meaning.proofs.Tests.{decide, fails}
 use Rattle.meaning.proofs.Sums.{sum-ext}
 use Rattle.weighing.specs.Scan.{marked}
-use Rattle.weighing.specs.Flow.{Ways, leaves, Sent, waysOf, wayOut, leftOf, Moved, Sends, Clear, Probed}
+use Rattle.weighing.specs.Flow.{Ways, leaves, Sent, waysOf, wayOut, leftOf, Moved, Sends, Clear, Flowed}
 use Rattle.weighing.proofs.Flowing.{sent-none, sent-start, sent-forth, sent-back, sent-end}
 
 -- what is left at the pairs there are is all that counts
@@ -109,5 +109,5 @@ clear-all L marks b long h so =
     }
 
 -- verdict 0 says nothing
-pub unknown : {p : Ways} {k t : ℕ} {L : Bones} {marks : List ℕ} → length marks ≡ 128 → Probed p k t L marks 0 0
-unknown long = record { long = long; heavy = λ e. absurd (omega arith); light = λ e. absurd (omega arith) }
+pub unknown : {p : Ways} {k t : ℕ} {L : Bones} {marks : List ℕ} → length marks ≡ 128 → Flowed p k t L marks 0 0
+unknown long = record { long = long; heavy = λ e. absurd (omega arith); low = λ e. absurd (omega arith) }

@@ -1,33 +1,113 @@
--- What a probe over the pairs of a pile says of the pile's splits.
+-- What sending over the pairs of a pile shows of the pile's splits. S is the pile, and the bones that are not free are the set.
 -- Assumes nothing.
-use Prim.Native.Nat.{ℕ, _≤_}
-use mathlib.Core.Path.{_≡_, _∙_}
-use mathlib.Core.Bool.{not}
+use Prim.Native.Nat.{ℕ, _≤_, _<_}
+use mathlib.Core.Path.{_≡_, refl, sym, _∙_, subst}
+use mathlib.Core.Logic.{⊎-elim}
+use mathlib.Core.Bool.{Bool, not, _&&_, Bool·beq}
 use mathlib.Core.List.{List}
 use native.Mathlib.Omega.{arith}
-use lib.Dec.{T}
+use lib.Dec.{T, eqb, eqb-refl, T-not, not-T}
+use lib.ListN.{length}
 use Rattle.meaning.specs.Count.{Bones}
 use Rattle.meaning.specs.Tally.{Tally, Symmetric, weight}
-use Rattle.meaning.proofs.Tests.{taut, so, _⊃_}
-use Rattle.meaning.proofs.Firm.{other, weight-other}
-use Rattle.weighing.specs.Scan.{marked}
-use Rattle.weighing.specs.Flow.{Ways, Carried, Probed, Lists}
+use Rattle.meaning.proofs.Tests.{both, left-of, right-of, decide, same-test, taut, so, _⊃_}
+use Rattle.meaning.proofs.Sets.{some-intro}
+use Rattle.meaning.proofs.Totals.{total-ext}
+use Rattle.meaning.proofs.Firm.{other, weight-other, weight-same}
+use Rattle.weighing.specs.Scan.{marked, untaken, LightSide}
+use Rattle.weighing.specs.Grow.{beside}
+use Rattle.weighing.specs.Flow.{Ways, Carried, Lists, unmarked, Flowed, Low, Told}
 use Rattle.weighing.proofs.WaysListed.{lists-carried, lists-light}
 
-module _ (n : ℕ) (w : Tally) (k : ℕ) (S : Bones) (p : Ways) (all : Lists n w k S p) (t : ℕ) (L : Bones) (marks : List ℕ) (verdict weighs : ℕ) (found : Probed p k t L marks verdict weighs) where
-  -- verdict 1: every split that parts t from L weighs k or more
-  pub probed-heavy : Symmetric w → verdict ≡ 1 → (B : Bones) → ((b : ℕ) → T (L b) → T (B b)) → T (not (B t)) → k ≤ weight n w S B
-  unfolding Carried
-  probed-heavy symmetric e B holds apart =
+-- the bones of S that are not in B
+left-out : Bones → Bones → Bones
+left-out S B b = S b && not (B b)
+
+out-same : (s a t b : Bool) → ((s && (s && not a)) && (t && not (t && not b))) ≡ ((s && not a) && (t && not (not b)))
+out-same s a t b =
+    same-test ((s && (s && not a)) && (t && not (t && not b))) ((s && not a) && (t && not (not b)))
+    (taut 4 (λ s a t b. (s && (s && not a)) && (t && not (t && not b)) ⊃ so ((s && not a) && (t && not (not b)))) tt s a t b)
+    (taut 4 (λ s a t b. (s && not a) && (t && not (not b)) ⊃ so ((s && (s && not a)) && (t && not (t && not b)))) tt s a t b)
+
+weight-out : (n : ℕ) (w : Tally) (S B : Bones) → weight n w S (left-out S B) ≡ weight n w S (other B)
+unfolding weight left-out
+weight-out n w S B = total-ext n w _ _ (λ i j hi hj. out-same (S i) (B i) (S j) (B j))
+
+module _ (n : ℕ) (w : Tally) (k : ℕ) (S : Bones) (ways : Ways) (all : Lists n w k S ways) (t : ℕ) (free marks : List ℕ) (verdict weighs : ℕ) (found : Flowed ways k t (unmarked free) marks verdict weighs) where
+  -- verdict 1: every split that parts t from the set weighs k or more
+  flow-tied : Symmetric w → T (S t) → verdict ≡ 1 → (B : Bones) → ((x : ℕ) → T (S x && not (marked free x)) → T (B x)) → T (not (B t)) → k ≤ weight n w S B
+  unfolding Carried left-out unmarked
+  flow-tied symmetric here e B holds apart =
       omega (
         arith,
-        found .heavy e (other B) apart (λ b h. taut 1 (λ z. z ⊃ so (not (not z))) tt (B b) (holds b h)),
-        lists-carried n w k S p all (other B),
+        found .heavy e (left-out S B) (both (S t) (not (B t)) here apart)
+            (λ b f. not-T (S b && not (B b)) (λ o. T-not (B b) (right-of (S b) (not (B b)) o) (holds b (both (S b) (not (marked free b)) (left-of (S b) (not (B b)) o) f)))),
+        lists-carried n w k S ways all (left-out S B),
+        weight-out n w S B,
         weight-other n w symmetric S B,
       )
 
-  -- verdict 2: the side that is marked weighs what is said, which is less than k
-  pub probed-light : verdict ≡ 2 → weighs ≡ weight n w S (marked marks)
-  probed-light e =
-      let side = found .light e in
-      side .weighed ∙ lists-light n w k S p all (marked marks) (omega (arith, side .weighed, side .light))
+  -- verdict 2: the bones that are marked are free, and weigh what is said
+  marked-free : verdict ≡ 2 → (b : ℕ) → T (marked marks b) → T (marked free b)
+  unfolding unmarked
+  marked-free e b m = ⊎-elim (λ f. f) (λ f. absurd (T-not (marked marks b) (found .low e .clear b f) m)) (decide (marked free b))
+
+  marked-weighs : verdict ≡ 2 → weighs ≡ weight n w S (marked marks)
+  marked-weighs e =
+      let low = found .low e in
+      low .weighed ∙ lists-light n w k S ways all (marked marks) (omega (arith, low .weighed, low .light))
+
+  module _ (p : ℕ) (below : (b : ℕ) → T (S b) → b < n) (others : (x : ℕ) → T (marked free x) → T (beside S p x)) where
+    in-pile : (x : ℕ) → T (marked free x) → T (S x)
+    unfolding beside
+    in-pile x f = left-of (S x) (not (eqb x p)) (others x f)
+
+    not-p : T (not (marked free p))
+    unfolding beside
+    not-p = not-T (marked free p) (λ f. T-not (eqb p p) (right-of (S p) (not (eqb p p)) (others p f)) (eqb-refl p))
+
+    flow-side : verdict ≡ 2 → LightSide n w k S p (λ b. b) (marked marks) weighs
+    unfolding untaken
+    flow-side e =
+        let low = found .low e in
+        let inside : (b : ℕ) → T (marked marks b) → T (S b) = λ b m. in-pile b (marked-free e b m) in
+        record {
+          moving = some-intro n (λ b. S b && marked marks b) t (below t (inside t (low .holds))) (both (S t) (marked marks t) (inside t (low .holds)) (low .holds));
+          staying = not-T (S p && marked marks p) (λ m. T-not (marked free p) not-p (marked-free e p (right-of (S p) (marked marks p) m)));
+          true-weight = marked-weighs e
+              ∙ weight-same n w w S S (marked marks) (λ b. S b && marked marks b) (λ i j hi hj. refl) (λ b l. refl)
+              (λ b l. same-test (marked marks b) (S b && marked marks b) (λ m. both (S b) (marked marks b) (inside b m) m) (right-of (S b) (marked marks b)));
+          light = low .light;
+        }
+
+    -- what a probe that found no light side tells, and one that found one
+    pub told-none : Symmetric w → length free ≡ 128 → T (marked free t) → (verdict ≡ 2 → ⊥) → Told n w k S p t free free verdict weighs
+    told-none symmetric long here other-verdict =
+        record {
+          long = long;
+          same = λ e. refl;
+          tied = flow-tied symmetric (in-pile t here);
+          rest = λ e. absurd (other-verdict e);
+          side = λ e. absurd (other-verdict e);
+        }
+
+    pub told-light : verdict ≡ 2 → Told n w k S p t free marks verdict weighs
+    told-light e =
+        record {
+          long = found .long;
+          same = λ o. absurd (o e);
+          tied = λ o. absurd (omega arith);
+          rest = λ o x h. not-T (marked marks x) (λ m. absurd (omega (arith, below x (in-pile x (marked-free e x m)))));
+          side = flow-side;
+        }
+
+-- where nothing was tried
+pub told-nothing : {n : ℕ} {w : Tally} {k : ℕ} {S : Bones} {p t : ℕ} {free : List ℕ} → length free ≡ 128 → Told n w k S p t free free 0 0
+told-nothing long =
+    record {
+      long = long;
+      same = λ e. refl;
+      tied = λ e. absurd (omega arith);
+      rest = λ e. absurd (omega arith);
+      side = λ e. absurd (omega arith);
+    }

@@ -8,7 +8,7 @@ use lib.Dec.{T}
 use lib.ListN.{length, getD}
 use Rattle.meaning.specs.Count.{Bones, sum}
 use Rattle.meaning.specs.Tally.{Tally, weight}
-use Rattle.weighing.specs.Scan.{marked}
+use Rattle.weighing.specs.Scan.{marked, LightSide}
 
 pub record Ways : Type 0 where
   pub pairs : ℕ
@@ -75,21 +75,34 @@ pub record Moved (p : Ways) (old new : List ℕ) (b c d : ℕ) : Type 0 where
 pub record Sends (p : Ways) (old new : List ℕ) (t : ℕ) (L : Bones) (d : ℕ) : Type 0 where
   pub sends : (v : ℕ) → Sent p (leftOf old) t L v t 0 → Sent p (leftOf new) t L (v + d) t 0
 
+-- the bones that are not marked
+unfoldable pub unmarked : List ℕ → Bones
+unmarked marks b = not (marked marks b)
+
 -- no bone of L is marked
 pub record Clear (L : Bones) (marks : List ℕ) : Type 0 where
   pub long : length marks ≡ 128
   pub clear : (b : ℕ) → T (L b) → T (not (marked marks b))
 
 -- a side that holds t and nothing of L, and its room, below k
-pub record LightMarks (p : Ways) (k t : ℕ) (L : Bones) (marks : List ℕ) (weighs : ℕ) : Type 0 where
+pub record Low (p : Ways) (k t : ℕ) (L : Bones) (marks : List ℕ) (weighs : ℕ) : Type 0 where
   pub holds : T (marked marks t)
   pub clear : (b : ℕ) → T (L b) → T (not (marked marks b))
   pub weighed : weighs ≡ leaves p (p .room) (marked marks)
   pub light : weighs < k
 
--- what a probe found, by its verdict: 1, that every side that holds t and nothing of L has room k or more; 2, a side that has less; else
+-- what sending shows, by its verdict: 1, that every side that holds t and nothing of L has room k or more; 2, a side that has less; else
 -- nothing
-pub record Probed (p : Ways) (k t : ℕ) (L : Bones) (marks : List ℕ) (verdict weighs : ℕ) : Type 0 where
+pub record Flowed (p : Ways) (k t : ℕ) (L : Bones) (marks : List ℕ) (verdict weighs : ℕ) : Type 0 where
   pub long : length marks ≡ 128
   pub heavy : verdict ≡ 1 → (A : Bones) → T (A t) → ((b : ℕ) → T (L b) → T (not (A b))) → k ≤ leaves p (p .room) A
-  pub light : verdict ≡ 2 → LightMarks p k t L marks weighs
+  pub low : verdict ≡ 2 → Low p k t L marks weighs
+
+-- what a probe of the free bone t of the pile S shows, by its verdict: 1, that every side that holds the bones of S that are not free, and
+-- not t, weighs k or more; 2, a light side of S without bone p, whose marks it leaves in place of the free ones; else nothing
+pub record Told (n : ℕ) (w : Tally) (k : ℕ) (S : Bones) (p t : ℕ) (free marks : List ℕ) (verdict weighs : ℕ) : Type 0 where
+  pub long : length marks ≡ 128
+  pub same : (verdict ≡ 2 → ⊥) → marks ≡ free
+  pub tied : verdict ≡ 1 → (B : Bones) → ((x : ℕ) → T (S x && not (marked free x)) → T (B x)) → T (not (B t)) → k ≤ weight n w S B
+  pub rest : verdict ≡ 2 → (x : ℕ) → n ≤ x → T (not (marked marks x))
+  pub side : verdict ≡ 2 → LightSide n w k S p (λ b. b) (marked marks) weighs

@@ -2,6 +2,7 @@
 mod links;
 mod moved;
 mod pass;
+mod path;
 mod probe;
 mod scan;
 pub mod search;

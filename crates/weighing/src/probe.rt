@@ -1,201 +1,35 @@
-// Whether tally k can be sent from a bone t to a set of bones over the pairs of a pile. A path is looked for by breadth, tally is sent
-// along it, and so on until k was sent or no path is left. Nothing is promised of the look for a path: each step of a sending checks
-// that the room is there, and a side that is given as light was weighed.
-use crate::scan::bone;
+// Whether tally k can be sent from a free bone t to the bones that are not free, over the pairs of a pile: tally goes along one path after
+// the other, until k was sent or no path is left. A path that was found is not trusted: each step of a sending checks that the room is
+// there, and a side that is given as light was weighed.
+use crate::path::arc_back;
+use crate::path::narrow;
+use crate::path::reach;
 use crate::ways::end_x;
 use crate::ways::end_y;
 use crate::ways::room;
 ghost use mathlib.Core.Path.{_≡_};
 ghost use mathlib.Core.Bool.{true};
 ghost use Prim.Native.Nat.{ℕ, _+_, _*_, _/_, _%_, _<_, _≤_};
+ghost use lib.Dec.{T};
 ghost use lib.ListN.{length};
+ghost use Rattle.meaning.specs.Heap.{pile};
+ghost use Rattle.weighing.specs.Table.{held};
+ghost use Rattle.weighing.specs.Side.{heapOf};
 ghost use Rattle.weighing.specs.Scan.{marked};
+ghost use Rattle.weighing.specs.Grow.{beside};
 ghost use Rattle.weighing.specs.Flow.{
   leaves,
   waysOf,
   wayOut,
   leftOf,
+  unmarked,
   Moved,
   Sends,
   Clear,
-  Probed,
+  Flowed,
+  Lists,
+  Told,
 };
-
-fn arc_of(x: u16) -> usize {
-    x as usize
-}
-
-// What is left of a pair's room over an arc, where `left` is left from x to y.
-fn arc_left(way: u32, arc: usize, left: u32) -> u32 {
-    if arc % 2 == 0 {
-        return left;
-    }
-    let twice = 2 * room(way);
-    if left < twice { twice - left } else { 0 }
-}
-
-// The bone that an arc goes to, and the one that it comes from.
-fn far_end(way: u32, arc: usize) -> usize {
-    if arc % 2 == 0 { end_y(way) } else { end_x(way) }
-}
-
-fn near_end(way: u32, arc: usize) -> usize {
-    if arc % 2 == 0 { end_x(way) } else { end_y(way) }
-}
-
-// How far a look has come: the bones queued, and the bone of the set that was met, 128 where none was.
-struct Front {
-    tail: usize,
-    met: usize,
-}
-
-// An arc is tried: where it has room left and goes to a bone not reached yet, that bone is reached over it.
-fn try_arc(
-    ways: &[u32; 448],
-    res: &[u32; 448],
-    inside: &[u8; 128],
-    arc: usize,
-    path: &mut [u16; 128],
-    queue: &mut [u8; 128],
-    front: Front,
-) -> Front
-    requires { ⌜ (arc < 896) × (front .tail ≤ 128) ⌝ }
-    ensures { λ r. ⌜ r .tail ≤ 128 ⌝ }
-{
-    let q = arc / 2;
-    let way = ways[q];
-    let c = far_end(way, arc);
-    let tail = front.tail;
-    if c < 128 {
-        if path[c] == 0 {
-            if 0 < arc_left(way, arc, res[q]) {
-                path[c] = arc as u16 + 1;
-                if inside[c] == 1 {
-                    return Front { tail, met: c };
-                }
-                if tail < 128 {
-                    queue[tail] = c as u8;
-                    return Front {
-                        tail: tail + 1,
-                        met: 128,
-                    };
-                }
-            }
-        }
-    }
-    front
-}
-
-// The arcs of bone b are tried in turn, until one goes to the set.
-fn spread(
-    ways: &[u32; 448],
-    next: &[u16; 896],
-    first: &[u16; 128],
-    res: &[u32; 448],
-    inside: &[u8; 128],
-    b: usize,
-    path: &mut [u16; 128],
-    queue: &mut [u8; 128],
-    front: Front,
-) -> Front
-    requires { ⌜ (b < 128) × (front .tail ≤ 128) ⌝ }
-    ensures { λ r. ⌜ r .tail ≤ 128 ⌝ }
-{
-    let mut got = front;
-    let mut arc = arc_of(first[b]);
-    let mut turns: usize = 0;
-    while turns < 128 {
-        if 896 <= arc {
-            return got;
-        }
-        got = try_arc(ways, res, inside, arc, path, queue, got);
-        if got.met < 128 {
-            return got;
-        }
-        arc = arc_of(next[arc]);
-        turns += 1;
-    }
-    got
-}
-
-// A bone of the set that a path with room left leads to from t, 128 where none is met. `path` has for each bone reached one more than
-// the arc that it was reached over, for t the greatest number, and for any other bone nought, as it had at first.
-fn reach(
-    ways: &[u32; 448],
-    next: &[u16; 896],
-    first: &[u16; 128],
-    res: &[u32; 448],
-    inside: &[u8; 128],
-    t: usize,
-    path: &mut [u16; 128],
-    queue: &mut [u8; 128],
-) -> usize
-    requires { ⌜ t < 128 ⌝ }
-{
-    path[t] = 65535;
-    queue[0] = t as u8;
-    let mut front = Front { tail: 1, met: 128 };
-    let mut head = 0;
-    while head < front.tail {
-        let b = bone(queue[head]);
-        if 128 <= b {
-            return 128;
-        }
-        front = spread(ways, next, first, res, inside, b, path, queue, front);
-        if front.met < 128 {
-            return front.met;
-        }
-        head += 1;
-    }
-    128
-}
-
-// The arc over which a bone was reached, 896 where there is none.
-fn arc_back(path: &[u16; 128], b: usize) -> usize
-    ensures { λ r. ⌜ r ≤ 896 ⌝ }
-{
-    if b < 128 {
-        let a = arc_of(path[b]);
-        if 0 < a {
-            if a <= 896 {
-                return a - 1;
-            }
-        }
-    }
-    896
-}
-
-// The least that is left on the path from t to the bone met, `want` at most; nought where the path breaks off.
-fn narrow(
-    ways: &[u32; 448],
-    res: &[u32; 448],
-    path: &[u16; 128],
-    t: usize,
-    met: usize,
-    want: u32,
-) -> u32 {
-    let mut least = want;
-    let mut b = met;
-    let mut turns: usize = 0;
-    while b != t {
-        let arc = arc_back(path, b);
-        if 896 <= arc {
-            return 0;
-        }
-        if 128 <= turns {
-            return 0;
-        }
-        let q = arc / 2;
-        let way = ways[q];
-        let left = arc_left(way, arc, res[q]);
-        if left < least {
-            least = left;
-        }
-        b = near_end(way, arc);
-        turns += 1;
-    }
-    least
-}
 
 // d goes from end x of pair q to end y, which must be bone b: gives end x, 256 where that cannot be.
 fn step_forth(
@@ -294,7 +128,7 @@ fn walk(
 fn send(
     ways: &[u32; 448],
     m: usize,
-    inside: &[u8; 128],
+    free: &[u8; 128],
     path: &[u16; 128],
     t: usize,
     met: usize,
@@ -303,10 +137,10 @@ fn send(
 ) -> u32
     requires { ⌜ (m ≤ 448) × (length (now res) ≡ 448) ⌝ }
     ensures { λ r. ⌜ length (now (res .exit)) ≡ 448 ⌝ }
-    ensures { λ r. ⌜ (0 < r → Sends (waysOf (now (ways .entry)) m) (now (res .entry)) (now (res .exit)) t (marked (now (inside .entry))) r) ⌝ }
+    ensures { λ r. ⌜ (0 < r → Sends (waysOf (now (ways .entry)) m) (now (res .entry)) (now (res .exit)) t (unmarked (now (free .entry))) r) ⌝ }
 {
     if met < 128 {
-        if inside[met] == 1 {
+        if free[met] != 1 {
             let d = narrow(ways, res, path, t, met, want);
             if walk(ways, m, path, t, met, d, res) {
                 return d;
@@ -316,26 +150,24 @@ fn send(
     0
 }
 
-// 1 where a bone was reached and is not in the set, else 0.
-fn mark_of(reached: u16, held: u8) -> u8
-    ensures { λ r. ⌜ (held ≡ 1 → r ≡ 0) ⌝ }
+// 1 where a bone was reached and is free, else 0.
+fn mark_of(reached: u16, free: u8) -> u8
+    ensures { λ r. ⌜ ((free ≡ 1 → ⊥) → r ≡ 0) ⌝ }
 {
-    if held == 1 {
-        return 0;
+    if free == 1 {
+        if reached == 0 { 0 } else { 1 }
+    } else {
+        0
     }
-    if reached == 0 {
-        return 0;
-    }
-    1
 }
 
-// The bones reached are marked, but for those of the set.
-fn mark(path: &[u16; 128], inside: &[u8; 128], seen: &mut [u8; 128])
+// The bones reached that are free are marked.
+fn mark(path: &[u16; 128], free: &[u8; 128], seen: &mut [u8; 128])
     requires { ⌜ length (now seen) ≡ 128 ⌝ }
-    ensures { λ r. ⌜ Clear (marked (now (inside .entry))) (now (seen .exit)) ⌝ }
+    ensures { λ r. ⌜ Clear (unmarked (now (free .entry))) (now (seen .exit)) ⌝ }
 {
     for b in 0..128 {
-        seen[b] = mark_of(path[b], inside[b]);
+        seen[b] = mark_of(path[b], free[b]);
     }
 }
 
@@ -346,7 +178,7 @@ fn round(
     next: &[u16; 896],
     first: &[u16; 128],
     m: usize,
-    inside: &[u8; 128],
+    free: &[u8; 128],
     t: usize,
     want: u32,
     res: &mut [u32; 448],
@@ -354,18 +186,18 @@ fn round(
 ) -> u32
     requires { ⌜ (m ≤ 448) × (t < 128) × (length (now res) ≡ 448) × (length (now seen) ≡ 128) ⌝ }
     ensures { λ r. ⌜ length (now (res .exit)) ≡ 448 ⌝ }
-    ensures { λ r. ⌜ (0 < r → Sends (waysOf (now (ways .entry)) m) (now (res .entry)) (now (res .exit)) t (marked (now (inside .entry))) r) ⌝ }
-    ensures { λ r. ⌜ (r ≡ 0 → Clear (marked (now (inside .entry))) (now (seen .exit))) ⌝ }
+    ensures { λ r. ⌜ (0 < r → Sends (waysOf (now (ways .entry)) m) (now (res .entry)) (now (res .exit)) t (unmarked (now (free .entry))) r) ⌝ }
+    ensures { λ r. ⌜ (r ≡ 0 → Clear (unmarked (now (free .entry))) (now (seen .exit))) ⌝ }
     ensures { λ r. ⌜ length (now (seen .exit)) ≡ 128 ⌝ }
 {
     let mut path = [0u16; 128];
     let mut queue = [0u8; 128];
-    let met = reach(ways, next, first, res, inside, t, &mut path, &mut queue);
-    let d = send(ways, m, inside, &path, t, met, want, res);
+    let met = reach(ways, next, first, res, free, t, &mut path, &mut queue);
+    let d = send(ways, m, free, &path, t, met, want, res);
     if 0 < d {
         return d;
     }
-    mark(&path, inside, seen);
+    mark(&path, free, seen);
     0
 }
 
@@ -425,13 +257,13 @@ fn settle(
     ways: &[u32; 448],
     m: usize,
     k: u64,
-    inside: &[u8; 128],
+    free: &[u8; 128],
     t: usize,
     seen: &[u8; 128],
 ) -> Finding
     requires { ⌜ (m ≤ 448) × (t < 128) ⌝ }
-    requires { ⌜ Clear (marked (now inside)) (now seen) ⌝ }
-    ensures { λ r. ⌜ Probed (waysOf (now (ways .entry)) m) k t (marked (now (inside .entry))) (now (seen .entry)) (r .verdict) (r .weight) ⌝ }
+    requires { ⌜ Clear (unmarked (now free)) (now seen) ⌝ }
+    ensures { λ r. ⌜ Flowed (waysOf (now (ways .entry)) m) k t (unmarked (now (free .entry))) (now (seen .entry)) (r .verdict) (r .weight) ⌝ }
 {
     if seen[t] == 1 {
         let out = leaving(ways, m, seen);
@@ -448,21 +280,21 @@ fn settle(
     }
 }
 
-// Tally is sent from bone t to the set `inside` until k was sent (verdict 1), or until no path is left and the bones that t still
-// reaches weigh less than k (verdict 2, and `seen` marks them). Verdict 0: nothing is known.
-pub(crate) fn probe(
+// Tally is sent from bone t to the bones that are not free until k was sent (verdict 1), or until no path is left and the free bones that
+// t still reaches weigh less than k (verdict 2, and `seen` marks them). Verdict 0: nothing is known.
+fn flow(
     ways: &[u32; 448],
     next: &[u16; 896],
     first: &[u16; 128],
     m: usize,
     k: u64,
-    inside: &[u8; 128],
+    free: &[u8; 128],
     t: usize,
     res: &mut [u32; 448],
     seen: &mut [u8; 128],
 ) -> Finding
     requires { ⌜ (m ≤ 448) × (t < 128) × (length (now res) ≡ 448) × (length (now seen) ≡ 128) ⌝ }
-    ensures { λ r. ⌜ Probed (waysOf (now (ways .entry)) m) k t (marked (now (inside .entry))) (now (seen .exit)) (r .verdict) (r .weight) ⌝ }
+    ensures { λ r. ⌜ Flowed (waysOf (now (ways .entry)) m) k t (unmarked (now (free .entry))) (now (seen .exit)) (r .verdict) (r .weight) ⌝ }
     ensures { λ r. ⌜ length (now (res .exit)) ≡ 448 ⌝ }
 {
     if 65535 < k {
@@ -475,9 +307,9 @@ pub(crate) fn probe(
     let mut sent: u64 = 0;
     while sent < k {
         let want = k - sent;
-        let d = round(ways, next, first, m, inside, t, want as u32, res, seen);
+        let d = round(ways, next, first, m, free, t, want as u32, res, seen);
         if d == 0 {
-            return settle(ways, m, k, inside, t, seen);
+            return settle(ways, m, k, free, t, seen);
         }
         sent += d as u64;
     }
@@ -485,4 +317,41 @@ pub(crate) fn probe(
         verdict: 1,
         weight: 0,
     }
+}
+
+// The free bone t of the pile named p is probed: 1, that it is tied to the bones that are not free by k; 2, a light side, left as marks in
+// place of the free ones, and its weight; 0, nothing. The first m of `ways` are the pile's pairs, unless m is over 448.
+pub(crate) fn probe(
+    table: &[u32; 16384],
+    names: &[u8; 128],
+    n: usize,
+    k: u64,
+    p: usize,
+    t: usize,
+    ways: &[u32; 448],
+    next: &[u16; 896],
+    first: &[u16; 128],
+    m: usize,
+    res: &mut [u32; 448],
+    free: &mut [u8; 128],
+) -> Finding
+    requires { ⌜ (n ≤ 128) × (length (now free) ≡ 128) × (length (now res) ≡ 448) × T (marked (now free) t) ⌝ }
+    requires { ⌜ ((x : ℕ) → T (marked (now free) x) → T (beside (pile n (heapOf (now names)) p) p x)) ⌝ }
+    requires { ⌜ (m ≤ 448 → Lists n (held (now table)) k (pile n (heapOf (now names)) p) (waysOf (now ways) m)) ⌝ }
+    ensures { λ r. ⌜ Told n (held (now (table .entry))) k (pile n (heapOf (now (names .entry))) p) p t (now (free .entry)) (now (free .exit)) (r .verdict) (r .weight) ⌝ }
+    ensures { λ r. ⌜ length (now (res .exit)) ≡ 448 ⌝ }
+{
+    if 448 < m {
+        return Finding {
+            verdict: 0,
+            weight: 0,
+        };
+    }
+    let mut seen = [0u8; 128];
+    let got = flow(ways, next, first, m, k, free, t, res, &mut seen);
+    let verdict = got.verdict;
+    if verdict == 2 {
+        *free = seen;
+    }
+    got
 }

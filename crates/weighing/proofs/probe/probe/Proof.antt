@@ -1,100 +1,61 @@
--- `weighing::probe::probe` meets its contract: as much as `sent` says was sent so far.
+-- `weighing::probe::probe` meets its contract.
 -- Assumes nothing.
-use Prim.Native.Nat.{ℕ, _+_, _-_, _≤_}
+use Prim.Native.Nat.{_<_}
 use native.Mathlib.Omega.{arith}
 use borrow.Author.Needs.{needs}
-use mathlib.Core.Path.{_≡_}
-use lib.ListN.{length}
-use Rattle.weighing.specs.Scan.{marked}
-use Rattle.weighing.specs.Flow.{waysOf, leftOf, Sent}
-use Rattle.weighing.proofs.ProbeSent.{unknown, sent-first, sent-heavy}
+use mathlib.Core.Path.{_≡_, refl}
+use mathlib.Core.Bool.{not}
+use lib.Dec.{T, eqb}
+use Rattle.meaning.specs.Heap.{pile}
+use Rattle.meaning.proofs.Tests.{left-of}
+use Rattle.meaning.proofs.Heaps.{pile-bone}
+use Rattle.weighing.specs.Table.{held}
+use Rattle.weighing.specs.Side.{heapOf}
+use Rattle.weighing.specs.Grow.{beside}
+use Rattle.weighing.specs.Flow.{waysOf}
+use Rattle.weighing.proofs.TableHeld.{held-symmetric}
+use Rattle.weighing.proofs.ProbeWeighs.{told-light, told-none, told-nothing}
 use Rattle.weighing.proofs.probe.probe.Statement.{statement}
 use Rattle.weighing.proofs.probe.probe.Tie as tie
 use Rattle.weighing.proofs.probe.probe.Reads as reads
 use Rattle.weighing.proofs.probe.probe.Lts as lts
-use Rattle.weighing.proofs.probe.round.Reads as round-reads
-use Rattle.weighing.proofs.probe.settle.Reads as settle-reads
-use Rattle.weighing.proofs.probe.start.Reads as start-reads
+use Rattle.weighing.proofs.probe.flow.Reads as flow-reads
 
-abbrev Inv-loop : tie.InvT-loop
-Inv-loop ways next first m k inside t res₀ seen₀ sent₀ res seen sent =
-    (length res ≡ 448) × (length seen ≡ 128) × Sent (waysOf ways m) (leftOf res) t (marked inside) sent t 0
+returns : tie.Need-returns
+returns c = (told-nothing (c .before .pre .0 .1), c .before .pre .0 .2)
 
-abbrev μ-loop : tie.MeasureT-loop
-μ-loop ways next first m k inside t res₀ seen₀ sent₀ res seen sent = k - sent
+-- the bone probed is in the pile
+bone-below : (c : tie.Start) → c .args .t < 128
+unfolding beside
+bone-below c =
+    let a = c .args in
+    let S = pile (a .n) (heapOf (a .names .now)) (a .p) in
+    omega (arith, pile-bone (a .n) (heapOf (a .names .now)) (a .p) (a .t) (left-of (S (a .t)) (not (eqb (a .t) (a .p))) (c .pre .1 .0 (a .t) (c .pre .0 .3))), c .pre .0)
 
-returns : tie.Need-returns Inv-loop μ-loop
-returns c = (unknown (c .before .pre .3), c .before .pre .2)
+flow-requires : tie.Need-flow-requires
+flow-requires c κs =
+    let s = c .before .before .before .before in
+    (c .before .before .before .if1 .left, bone-below s, s .pre .0 .2, refl)
 
-start-requires : tie.Need-start-requires Inv-loop μ-loop
-start-requires c κs = search needs
+returns-2 : tie.Need-returns-2
+returns-2 c =
+    let s = c .before .before .before .before .before .before in
+    let a = s .args in
+    let S = pile (a .n) (heapOf (a .names .now)) (a .p) in (
+      told-light (a .n) (held (a .table .now)) (a .k) S (waysOf (a .ways .now) (a .m)) (s .pre .1 .1 (c .before .before .before .before .before .if1 .left)) (a .t) (a .free .now) _ _ _ (c .before .flow .ensures .0)
+          (a .p) (pile-bone (a .n) (heapOf (a .names .now)) (a .p)) (s .pre .1 .0) (c .if2 .taken),
+      c .before .flow .ensures .1,
+    )
 
-loop-holds : tie.Need-loop-holds Inv-loop μ-loop
-unfolding waysOf
-loop-holds c = (c .start .ensures .0, c .before .before .before .pre .3, sent-first _ _ _ _ (c .start .ensures .1))
-
-sub-want : tie.Need-sub-want Inv-loop μ-loop
-sub-want c = search needs
-
-cast-round : tie.Need-cast-round Inv-loop μ-loop
-cast-round c = search needs
-
-round-requires : tie.Need-round-requires Inv-loop μ-loop
-round-requires c κs =
-    let s = c .before .before .before .before .before .before .before in
-    (s .pre .0, s .pre .1, c .before .before .before .loop .inv .0, c .before .before .before .loop .inv .1)
-
-settle-requires : tie.Need-settle-requires Inv-loop μ-loop
-settle-requires c κs =
-    let s = c .before .before .before .before .before .before .before .before .before .before in
-    ((s .pre .0, s .pre .1), c .before .before .round .ensures .1 .1 .0 (c .before .if2 .taken))
-
-returns-2 : tie.Need-returns-2 Inv-loop μ-loop
-returns-2 c = (c .settle .ensures, c .before .before .before .round .ensures .0)
-
-cast-sent : tie.Need-cast-sent Inv-loop μ-loop
-cast-sent c = search needs
-
-add-sent : tie.Need-add-sent Inv-loop μ-loop
-add-sent c = search needs
-
-loop-less : tie.Need-loop-less Inv-loop μ-loop
-loop-less c = omega arith
-
-loop-again : tie.Need-loop-again Inv-loop μ-loop
-loop-again c =
-    let r = c .before .round .ensures in
-    let l = c .before .before .before .before .before .loop in
-    (r .0, r .1 .1 .1, r .1 .0 (omega arith) .sends (l .sent) (l .inv .2))
-
-returns-3 : tie.Need-returns-3 Inv-loop μ-loop
+returns-3 : tie.Need-returns-3
 returns-3 c =
-    let a = c .before .before .before .before .before .args in
-    let l = c .before .loop in (
-      record {
-        long = l .inv .1;
-        heavy = λ e. sent-heavy (waysOf (a .ways .now) (a .m)) (leftOf (l .res)) (a .t) (marked (a .inside .now)) (l .sent) (a .k) (l .inv .2) (c .loop-test .left);
-        light = λ e. absurd (omega arith);
-      },
-      l .inv .0,
+    let s = c .before .before .before .before .before .before in
+    let a = s .args in
+    let S = pile (a .n) (heapOf (a .names .now)) (a .p) in (
+      told-none (a .n) (held (a .table .now)) (a .k) S (waysOf (a .ways .now) (a .m)) (s .pre .1 .1 (c .before .before .before .before .before .if1 .left)) (a .t) (a .free .now) _ _ _ (c .before .flow .ensures .0)
+          (a .p) (pile-bone (a .n) (heapOf (a .names .now)) (a .p)) (s .pre .1 .0) (held-symmetric (a .table .now)) (s .pre .0 .1) (s .pre .0 .3) (c .if2 .left),
+      c .before .flow .ensures .1,
     )
 
 pub probe-spec : {M : Type 1} → statement M
-probe-spec =
-    tie.close
-    (tie.spec
-    Inv-loop
-    μ-loop
-    returns
-    start-requires
-    loop-holds
-    sub-want
-    cast-round
-    round-requires
-    settle-requires
-    returns-2
-    cast-sent
-    add-sent
-    loop-less
-    loop-again
-    returns-3)
+probe-spec = tie.close (tie.spec returns flow-requires returns-2 returns-3)

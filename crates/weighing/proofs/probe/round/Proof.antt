@@ -8,7 +8,7 @@ use Rattle.weighing.proofs.probe.round.Tie as tie
 use Rattle.weighing.proofs.probe.round.Reads as reads
 use Rattle.weighing.proofs.probe.round.Lts as lts
 use Rattle.weighing.proofs.probe.mark.Reads as mark-reads
-use Rattle.weighing.proofs.probe.reach.Reads as reach-reads
+use Rattle.weighing.proofs.path.reach.Reads as reach-reads
 use Rattle.weighing.proofs.probe.send.Reads as send-reads
 
 reach-requires : tie.Need-reach-requires

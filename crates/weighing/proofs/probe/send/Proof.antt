@@ -3,14 +3,15 @@
 use Prim.Native.Nat.{ℕ, _+_, _-_, _≤_}
 use native.Mathlib.Omega.{arith}
 use borrow.Author.Needs.{needs}
-use Rattle.meaning.proofs.Tests.{eq→eqb}
+use Rattle.meaning.proofs.Tests.{ne→neqb}
 use Rattle.weighing.specs.Scan.{marked}
+use Rattle.weighing.specs.Flow.{unmarked}
 use Rattle.weighing.proofs.ProbeSent.{moved-sends}
 use Rattle.weighing.proofs.probe.send.Statement.{statement}
 use Rattle.weighing.proofs.probe.send.Tie as tie
 use Rattle.weighing.proofs.probe.send.Reads as reads
 use Rattle.weighing.proofs.probe.send.Lts as lts
-use Rattle.weighing.proofs.probe.narrow.Reads as narrow-reads
+use Rattle.weighing.proofs.path.narrow.Reads as narrow-reads
 use Rattle.weighing.proofs.probe.walk.Reads as walk-reads
 
 element-copy-out-if2 : tie.Need-element-copy-out-if2
@@ -23,10 +24,10 @@ walk-requires : tie.Need-walk-requires
 walk-requires c κs = search needs
 
 returns : tie.Need-returns
-unfolding marked
+unfolding unmarked marked
 returns c = (
   c .before .walk .ensures .0,
-  λ h. moved-sends (marked (c .before .before .before .before .before .before .before .before .args .inside .now)) (eq→eqb _ 1 (c .before .before .before .before .before .if2 .taken)) (c .before .walk .ensures .1 (c .if3 .taken)),
+  λ h. moved-sends (unmarked (c .before .before .before .before .before .before .before .before .args .free .now)) (ne→neqb _ 1 (c .before .before .before .before .before .if2 .taken)) (c .before .walk .ensures .1 (c .if3 .taken)),
 )
 
 returns-2 : tie.Need-returns-2

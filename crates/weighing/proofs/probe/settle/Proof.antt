@@ -25,7 +25,7 @@ returns c =
     record {
       long = s .pre .1 .long;
       heavy = λ e. absurd (omega arith);
-      light = λ e. record { holds = eq→eqb _ 1 (c .before .before .if1 .taken); clear = s .pre .1 .clear; weighed = c .before .leaving .ensures; light = c .if2 .taken };
+      low = λ e. record { holds = eq→eqb _ 1 (c .before .before .if1 .taken); clear = s .pre .1 .clear; weighed = c .before .leaving .ensures; light = c .if2 .taken };
     }
 
 returns-2 : tie.Need-returns-2

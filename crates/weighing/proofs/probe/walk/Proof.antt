@@ -12,7 +12,7 @@ use Rattle.weighing.proofs.probe.walk.Statement.{statement}
 use Rattle.weighing.proofs.probe.walk.Tie as tie
 use Rattle.weighing.proofs.probe.walk.Reads as reads
 use Rattle.weighing.proofs.probe.walk.Lts as lts
-use Rattle.weighing.proofs.probe.arc_back.Reads as arc-back-reads
+use Rattle.weighing.proofs.path.arc_back.Reads as arc-back-reads
 use Rattle.weighing.proofs.probe.step.Reads as step-reads
 
 abbrev Inv-loop : tie.InvT-loop

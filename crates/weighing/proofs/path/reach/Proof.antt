@@ -1,13 +1,13 @@
--- `weighing::probe::reach` meets its contract.
+-- `weighing::path::reach` meets its contract.
 -- Assumes nothing.
 use Prim.Native.Nat.{ℕ, _+_, _-_, _≤_}
 use native.Mathlib.Omega.{arith}
 use borrow.Author.Needs.{needs}
-use Rattle.weighing.proofs.probe.reach.Statement.{statement}
-use Rattle.weighing.proofs.probe.reach.Tie as tie
-use Rattle.weighing.proofs.probe.reach.Reads as reads
-use Rattle.weighing.proofs.probe.reach.Lts as lts
-use Rattle.weighing.proofs.probe.spread.Reads as spread-reads
+use Rattle.weighing.proofs.path.reach.Statement.{statement}
+use Rattle.weighing.proofs.path.reach.Tie as tie
+use Rattle.weighing.proofs.path.reach.Reads as reads
+use Rattle.weighing.proofs.path.reach.Lts as lts
+use Rattle.weighing.proofs.path.spread.Reads as spread-reads
 use Rattle.weighing.proofs.scan.bone.Reads as bone-reads
 
 abbrev Inv-loop : tie.InvT-loop
