@@ -1,9 +1,9 @@
 -- What sending over the pairs of a pile shows of the pile's splits. S is the pile, and the bones that are not free are the set.
 -- Assumes nothing.
 use Prim.Native.Nat.{ℕ, _≤_, _<_}
-use mathlib.Core.Path.{_≡_, refl, sym, _∙_, subst}
+use mathlib.Core.Path.{_≡_, refl, _∙_}
 use mathlib.Core.Logic.{⊎-elim}
-use mathlib.Core.Bool.{Bool, not, _&&_, Bool·beq}
+use mathlib.Core.Bool.{Bool, not, _&&_}
 use mathlib.Core.List.{List}
 use native.Mathlib.Omega.{arith}
 use lib.Dec.{T, eqb, eqb-refl, T-not, not-T}
@@ -16,7 +16,7 @@ use Rattle.meaning.proofs.Totals.{total-ext}
 use Rattle.meaning.proofs.Firm.{other, weight-other, weight-same}
 use Rattle.weighing.specs.Scan.{marked, untaken, LightSide}
 use Rattle.weighing.specs.Grow.{beside}
-use Rattle.weighing.specs.Flow.{Ways, Carried, Lists, unmarked, Flowed, Low, Told}
+use Rattle.weighing.specs.Flow.{Ways, Carried, Lists, unmarked, Flowed, Told}
 use Rattle.weighing.proofs.WaysListed.{lists-carried, lists-light}
 
 -- the bones of S that are not in B

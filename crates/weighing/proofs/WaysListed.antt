@@ -1,7 +1,7 @@
 -- Listing the pairs of a pile: the room out of a side grows with each pair by what the pair adds to the side's weight.
 -- Assumes nothing.
 use Prim.Native.Nat.{ℕ, zero, suc, _+_, _*_, _-_, _/_, _%_, _≤_, _<_, min}
-use mathlib.Core.Path.{_≡_, refl, sym, _∙_, ap, ap₂, subst}
+use mathlib.Core.Path.{_≡_, refl, sym, _∙_, ap, ap₂}
 use mathlib.Core.Bool.{Bool, true, false, cond, not, _&&_}
 use mathlib.Core.List.{List}
 use native.Mathlib.Nat.{le-refl}
@@ -11,9 +11,8 @@ use lib.ListN.{length, getD, set, length-set}
 use lib.Seq.{getD-set-same, getD-set-other}
 use Rattle.meaning.specs.Count.{Bones, sum}
 use Rattle.meaning.specs.Tally.{Tally, Symmetric, total, weight}
-use Rattle.meaning.proofs.Tests.{is-true, is-false}
 use Rattle.meaning.proofs.Sums.{sum-ext, sum-mono, sum-zero, sum-add}
-use Rattle.weighing.specs.Flow.{Ways, leaves, Carried, wayOf, waysOf, wayOut, capped, Lists, pairOut, pairsOut, Listed}
+use Rattle.weighing.specs.Flow.{Ways, leaves, Carried, wayOf, waysOf, wayOut, capped, Lists, pairOut, pairsOut, Listed, Ready}
 use Rattle.weighing.proofs.Attach.{sum-next}
 
 -- a square of terms, corner by corner
@@ -157,9 +156,14 @@ pub listed-other : (w : Tally) (k : ℕ) (S : Bones) (ways : List ℕ) (m i : �
 listed-other w k S ways m i out so =
     record { long = so .long; lists = λ h A. so .lists h A ∙ sym (pairs-other (capped k w) S A i out) }
 
-pub listed-all : (n : ℕ) (w : Tally) (k : ℕ) (S : Bones) (ways : List ℕ) (m : ℕ) → Listed w k S ways m n 0 → m ≤ 448 → Lists n w k S (waysOf ways m)
+pub listed-all : (n : ℕ) (w : Tally) (k : ℕ) (S : Bones) (ways : List ℕ) (m : ℕ) → Listed w k S ways m n 0 → Ready n w k S ways m
 unfolding Lists pairsOut sum
-listed-all n w k S ways m so h A = so .lists h A ∙ omega (arith, weight-pairs n (capped k w) S A)
+listed-all n w k S ways m so =
+    record { long = so .long; lists = λ h A. so .lists h A ∙ omega (arith, weight-pairs n (capped k w) S A) }
+
+-- nothing is listed yet, or there are too many
+pub ready-none : {n : ℕ} {w : Tally} {k : ℕ} {S : Bones} {ways : List ℕ} {m : ℕ} → length ways ≡ 448 → 448 < m → Ready n w k S ways m
+ready-none long over = record { long = long; lists = λ h. absurd (omega arith) }
 
 -- no side has more room than it weighs; and where its room is below k, it has exactly that much
 cap-most : (b : Bool) (x k : ℕ) → cond b (min x k) 0 ≤ cond b x 0

@@ -2,7 +2,7 @@
 -- x to y; what is left from y to x is the rest of twice the room.
 use Prim.Native.Nat.{ℕ, _+_, _*_, _-_, _/_, _%_, _≤_, _<_, min}
 use mathlib.Core.Path.{_≡_}
-use mathlib.Core.Bool.{Bool, cond, not, _&&_}
+use mathlib.Core.Bool.{cond, not, _&&_}
 use mathlib.Core.List.{List}
 use lib.Dec.{T}
 use lib.ListN.{length, getD}
@@ -49,6 +49,11 @@ capped k w i j = min (w i j) k
 -- the pairs are those of S, each with its tally, k at most: their room out of a side is what the side weighs by that tally
 unfoldable pub Lists : ℕ → Tally → ℕ → Bones → Ways → Type 0
 Lists n w k S p = (A : Bones) → leaves p (p .room) A ≡ weight n (capped k w) S A
+
+-- a run of 448 numbers, of which the first m are those pairs, unless m is over 448
+pub record Ready (n : ℕ) (w : Tally) (k : ℕ) (S : Bones) (ways : List ℕ) (m : ℕ) : Type 0 where
+  pub long : length ways ≡ 448
+  pub lists : m ≤ 448 → Lists n w k S (waysOf ways m)
 
 -- what the pair of bones i and j adds to the weight of the split of S whose one side is A; and all pairs of a bone below i with a lesser
 -- one, and those of i with the bones below j

@@ -6,6 +6,7 @@ mod path;
 mod probe;
 mod scan;
 pub mod search;
+mod sending;
 mod side;
 mod table;
 mod ways;

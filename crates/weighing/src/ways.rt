@@ -3,13 +3,13 @@
 use crate::scan::bone;
 use crate::table::tally_at;
 ghost use mathlib.Core.Path.{_≡_};
-ghost use Prim.Native.Nat.{ℕ, _+_, _*_, _/_, _%_, _<_, _≤_, min};
+ghost use Prim.Native.Nat.{_+_, _/_, _%_, _<_, _≤_, min};
 ghost use lib.Dec.{T};
 ghost use lib.ListN.{length, set};
 ghost use Rattle.meaning.specs.Heap.{pile};
 ghost use Rattle.weighing.specs.Table.{held};
 ghost use Rattle.weighing.specs.Side.{heapOf};
-ghost use Rattle.weighing.specs.Flow.{wayOf, waysOf, Listed, Lists};
+ghost use Rattle.weighing.specs.Flow.{wayOf, Listed, Ready};
 
 // A pair is one number: end x, 256 times end y, 65,536 times the room.
 pub(crate) fn end_x(way: u32) -> usize
@@ -160,7 +160,7 @@ fn no_arcs(first: &mut [u16; 128]) {
 
 // The pairs of the pile named p, of which there are as many as it gives; where it gives over 448, there are too many, or k is over 65,535,
 // and nothing is known.
-pub(crate) fn list_ways(
+fn list_ways(
     table: &[u32; 16384],
     names: &[u8; 128],
     n: usize,
@@ -171,8 +171,7 @@ pub(crate) fn list_ways(
     first: &mut [u16; 128],
 ) -> usize
     requires { ⌜ (n ≤ 128) × (length (now ways) ≡ 448) ⌝ }
-    ensures { λ r. ⌜ length (now (ways .exit)) ≡ 448 ⌝ }
-    ensures { λ r. ⌜ (r ≤ 448 → Lists n (held (now (table .entry))) k (pile n (heapOf (now (names .entry))) p) (waysOf (now (ways .exit)) r)) ⌝ }
+    ensures { λ r. ⌜ Ready n (held (now (table .entry))) k (pile n (heapOf (now (names .entry))) p) (now (ways .exit)) r ⌝ }
 {
     if 65535 < k {
         return 449;
@@ -184,4 +183,26 @@ pub(crate) fn list_ways(
         m = list_bone(table, names, n, most, p, i, ways, next, first, m);
     }
     m
+}
+
+// The same, where it was not done yet: then m is 450.
+pub(crate) fn list_once(
+    table: &[u32; 16384],
+    names: &[u8; 128],
+    n: usize,
+    k: u64,
+    p: usize,
+    ways: &mut [u32; 448],
+    next: &mut [u16; 896],
+    first: &mut [u16; 128],
+    m: usize,
+) -> usize
+    requires { ⌜ n ≤ 128 ⌝ }
+    requires { ⌜ Ready n (held (now table)) k (pile n (heapOf (now names)) p) (now ways) m ⌝ }
+    ensures { λ r. ⌜ Ready n (held (now (table .entry))) k (pile n (heapOf (now (names .entry))) p) (now (ways .exit)) r ⌝ }
+{
+    if m < 450 {
+        return m;
+    }
+    list_ways(table, names, n, k, p, ways, next, first)
 }

@@ -1,15 +1,9 @@
--- `weighing::path::narrow` meets its contract.
+-- `weighing::path::narrow` is safe and ends: it takes 128 turns at most.
 -- Assumes nothing.
-use Prim.Native.Nat.{ℕ, _+_, _-_, _≤_}
-use native.Mathlib.Omega.{arith}
+use Prim.Native.Nat.{_-_, _≤_}
 use borrow.Author.Needs.{needs}
 use Rattle.weighing.proofs.path.narrow.Statement.{statement}
 use Rattle.weighing.proofs.path.narrow.Tie as tie
-use Rattle.weighing.proofs.path.narrow.Reads as reads
-use Rattle.weighing.proofs.path.narrow.Lts as lts
-use Rattle.weighing.proofs.path.arc_back.Reads as arc-back-reads
-use Rattle.weighing.proofs.path.arc_left.Reads as arc-left-reads
-use Rattle.weighing.proofs.path.near_end.Reads as near-end-reads
 
 abbrev Inv-loop : tie.InvT-loop
 Inv-loop ways res path t met want least₀ b₀ turns₀ least b turns = turns ≤ 128

@@ -1,14 +1,9 @@
--- `weighing::path::reach` meets its contract.
+-- `weighing::path::reach` is safe and ends: each turn takes a bone off the queue.
 -- Assumes nothing.
-use Prim.Native.Nat.{ℕ, _+_, _-_, _≤_}
-use native.Mathlib.Omega.{arith}
+use Prim.Native.Nat.{_-_, _≤_}
 use borrow.Author.Needs.{needs}
 use Rattle.weighing.proofs.path.reach.Statement.{statement}
 use Rattle.weighing.proofs.path.reach.Tie as tie
-use Rattle.weighing.proofs.path.reach.Reads as reads
-use Rattle.weighing.proofs.path.reach.Lts as lts
-use Rattle.weighing.proofs.path.spread.Reads as spread-reads
-use Rattle.weighing.proofs.scan.bone.Reads as bone-reads
 
 abbrev Inv-loop : tie.InvT-loop
 Inv-loop ways next first res inside t path₀ queue₀ front₀ head₀ path queue front head = front .tail ≤ 128

@@ -1,14 +1,9 @@
--- `weighing::path::spread` meets its contract.
+-- `weighing::path::spread` meets its contract: no turn queues more than 128 bones.
 -- Assumes nothing.
-use Prim.Native.Nat.{ℕ, _+_, _-_, _≤_}
-use native.Mathlib.Omega.{arith}
+use Prim.Native.Nat.{_-_, _≤_}
 use borrow.Author.Needs.{needs}
 use Rattle.weighing.proofs.path.spread.Statement.{statement}
 use Rattle.weighing.proofs.path.spread.Tie as tie
-use Rattle.weighing.proofs.path.spread.Reads as reads
-use Rattle.weighing.proofs.path.spread.Lts as lts
-use Rattle.weighing.proofs.path.arc_of.Reads as arc-of-reads
-use Rattle.weighing.proofs.path.try_arc.Reads as try-arc-reads
 
 abbrev Inv-loop : tie.InvT-loop
 Inv-loop ways next first res inside b path₀ queue₀ got₀ arc₀ turns₀ path queue got arc turns = (turns ≤ 128) × (got .tail ≤ 128)

@@ -1,6 +1,6 @@
 -- `weighing::probe::flow` meets its contract: as much as `sent` says was sent so far.
 -- Assumes nothing.
-use Prim.Native.Nat.{ℕ, _+_, _-_, _≤_}
+use Prim.Native.Nat.{_-_}
 use native.Mathlib.Omega.{arith}
 use borrow.Author.Needs.{needs}
 use mathlib.Core.Path.{_≡_}
@@ -9,11 +9,6 @@ use Rattle.weighing.specs.Flow.{waysOf, leftOf, unmarked, Sent}
 use Rattle.weighing.proofs.ProbeSent.{unknown, sent-first, sent-heavy}
 use Rattle.weighing.proofs.probe.flow.Statement.{statement}
 use Rattle.weighing.proofs.probe.flow.Tie as tie
-use Rattle.weighing.proofs.probe.flow.Reads as reads
-use Rattle.weighing.proofs.probe.flow.Lts as lts
-use Rattle.weighing.proofs.probe.round.Reads as round-reads
-use Rattle.weighing.proofs.probe.settle.Reads as settle-reads
-use Rattle.weighing.proofs.probe.start.Reads as start-reads
 
 abbrev Inv-loop : tie.InvT-loop
 Inv-loop ways next first m k free t res₀ seen₀ sent₀ res seen sent =

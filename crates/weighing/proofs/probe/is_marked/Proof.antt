@@ -1,15 +1,11 @@
--- `weighing::probe::is_marked` meets its contract.
+-- `weighing::probe::is_marked` meets its contract, by whether the number is a bone's.
 -- Assumes nothing.
-use Prim.Native.Nat.{ℕ, _+_, _-_, _≤_}
-use native.Mathlib.Omega.{arith}
 use borrow.Author.Needs.{needs}
-use mathlib.Core.Path.{_≡_, refl, sym}
+use mathlib.Core.Path.{refl, sym}
 use Rattle.weighing.specs.Scan.{marked}
 use Rattle.weighing.proofs.ProbeSent.{unmarked-past}
 use Rattle.weighing.proofs.probe.is_marked.Statement.{statement}
 use Rattle.weighing.proofs.probe.is_marked.Tie as tie
-use Rattle.weighing.proofs.probe.is_marked.Reads as reads
-use Rattle.weighing.proofs.probe.is_marked.Lts as lts
 
 element-copy-out-result : tie.Need-element-copy-out-result
 element-copy-out-result c = search needs

@@ -1,6 +1,6 @@
 -- `weighing::probe::leaving` meets its contract: after q turns the room of the pairs below q is added up.
 -- Assumes nothing.
-use Prim.Native.Nat.{ℕ, _+_, _-_, _*_, _/_, _≤_, zero-le}
+use Prim.Native.Nat.{ℕ, _+_, _-_, _*_, _≤_, zero-le}
 use native.Mathlib.Omega.{arith}
 use borrow.Author.Needs.{needs}
 use Rattle.weighing.proofs.Attach.{sum-next}
@@ -12,9 +12,6 @@ use Rattle.weighing.specs.Scan.{marked}
 use Rattle.weighing.specs.Flow.{wayOut}
 use Rattle.weighing.proofs.probe.leaving.Statement.{statement}
 use Rattle.weighing.proofs.probe.leaving.Tie as tie
-use Rattle.weighing.proofs.probe.leaving.Reads as reads
-use Rattle.weighing.proofs.probe.leaving.Lts as lts
-use Rattle.weighing.proofs.probe.way_out.Reads as way-out-reads
 
 abbrev Inv-loop : tie.InvT-loop
 Inv-loop ways m seen out₀ q₀ out q = (q ≤ m) × (out ≡ sum q (λ i. wayOut (marked seen) (getD ways i 0))) × (out ≤ q * 65535)

@@ -1,6 +1,6 @@
 -- `weighing::probe::mark` meets its contract: after b turns no bone below b is marked that is not free.
 -- Assumes nothing.
-use Prim.Native.Nat.{ℕ, _+_, _-_, _*_, _/_, _≤_, _<_, zero-le}
+use Prim.Native.Nat.{ℕ, _-_, _≤_, _<_, zero-le}
 use native.Mathlib.Omega.{arith}
 use borrow.Author.Needs.{needs}
 use mathlib.Core.Path.{_≡_, _∙_}
@@ -13,9 +13,6 @@ use Rattle.weighing.specs.Flow.{unmarked}
 use Rattle.weighing.proofs.ProbeSent.{clear-next, clear-all}
 use Rattle.weighing.proofs.probe.mark.Statement.{statement}
 use Rattle.weighing.proofs.probe.mark.Tie as tie
-use Rattle.weighing.proofs.probe.mark.Reads as reads
-use Rattle.weighing.proofs.probe.mark.Lts as lts
-use Rattle.weighing.proofs.probe.mark_of.Reads as mark-of-reads
 
 abbrev Inv-loop : tie.InvT-loop
 Inv-loop path free seen₀ b₀ seen b = (b ≤ 128) × (length seen ≡ 128) × ((x : ℕ) → x < b → T (unmarked free x) → T (not (marked seen x)))

@@ -1,15 +1,9 @@
--- `weighing::probe::round` meets its contract.
+-- `weighing::probe::round` meets its contract, by whether anything was sent.
 -- Assumes nothing.
-use Prim.Native.Nat.{ℕ, _+_, _-_, _≤_}
 use native.Mathlib.Omega.{arith}
 use borrow.Author.Needs.{needs}
 use Rattle.weighing.proofs.probe.round.Statement.{statement}
 use Rattle.weighing.proofs.probe.round.Tie as tie
-use Rattle.weighing.proofs.probe.round.Reads as reads
-use Rattle.weighing.proofs.probe.round.Lts as lts
-use Rattle.weighing.proofs.probe.mark.Reads as mark-reads
-use Rattle.weighing.proofs.path.reach.Reads as reach-reads
-use Rattle.weighing.proofs.probe.send.Reads as send-reads
 
 reach-requires : tie.Need-reach-requires
 reach-requires c κs = search needs

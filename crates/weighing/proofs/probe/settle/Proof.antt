@@ -1,6 +1,5 @@
--- `weighing::probe::settle` meets its contract.
+-- `weighing::probe::settle` meets its contract, by whether the side marked is light.
 -- Assumes nothing.
-use Prim.Native.Nat.{ℕ, _+_, _-_, _≤_}
 use native.Mathlib.Omega.{arith}
 use borrow.Author.Needs.{needs}
 use Rattle.meaning.proofs.Tests.{eq→eqb}
@@ -8,9 +7,6 @@ use Rattle.weighing.specs.Scan.{marked}
 use Rattle.weighing.proofs.ProbeSent.{unknown}
 use Rattle.weighing.proofs.probe.settle.Statement.{statement}
 use Rattle.weighing.proofs.probe.settle.Tie as tie
-use Rattle.weighing.proofs.probe.settle.Reads as reads
-use Rattle.weighing.proofs.probe.settle.Lts as lts
-use Rattle.weighing.proofs.probe.leaving.Reads as leaving-reads
 
 element-copy-out-if1 : tie.Need-element-copy-out-if1
 element-copy-out-if1 c = search needs

@@ -10,12 +10,6 @@ use Rattle.weighing.specs.Flow.{wayOut}
 use Rattle.weighing.proofs.ProbeSent.{way-cases}
 use Rattle.weighing.proofs.probe.way_out.Statement.{statement}
 use Rattle.weighing.proofs.probe.way_out.Tie as tie
-use Rattle.weighing.proofs.probe.way_out.Reads as reads
-use Rattle.weighing.proofs.probe.way_out.Lts as lts
-use Rattle.weighing.proofs.probe.is_marked.Reads as is-marked-reads
-use Rattle.weighing.proofs.ways.end_x.Reads as end-x-reads
-use Rattle.weighing.proofs.ways.end_y.Reads as end-y-reads
-use Rattle.weighing.proofs.ways.room.Reads as room-reads
 
 end-x-requires : tie.Need-end-x-requires
 end-x-requires c κs = search needs

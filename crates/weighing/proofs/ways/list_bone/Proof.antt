@@ -1,7 +1,7 @@
 -- `weighing::ways::list_bone` meets its contract: a bone of another pile has no pair in this one.
 -- Assumes nothing.
-use mathlib.Core.Path.{_≡_, sym, _∙_}
-use lib.Dec.{T, not-T}
+use mathlib.Core.Path.{sym, _∙_}
+use lib.Dec.{not-T}
 use Rattle.meaning.specs.Heap.{pile}
 use Rattle.meaning.proofs.Heaps.{pile-intro, pile-name}
 use Rattle.weighing.specs.Table.{held}
@@ -10,10 +10,6 @@ use Rattle.weighing.proofs.WaysListed.{listed-other}
 use borrow.Author.Needs.{needs}
 use Rattle.weighing.proofs.ways.list_bone.Statement.{statement}
 use Rattle.weighing.proofs.ways.list_bone.Tie as tie
-use Rattle.weighing.proofs.ways.list_bone.Reads as reads
-use Rattle.weighing.proofs.ways.list_bone.Lts as lts
-use Rattle.weighing.proofs.scan.bone.Reads as bone-reads
-use Rattle.weighing.proofs.ways.list_row.Reads as list-row-reads
 
 -- src/ways.rt:146:9
 returns : tie.Need-returns

@@ -1,11 +1,11 @@
 -- `weighing::ways::list_pair` meets its contract, by whether the pair has room, bone j is in the pile, and there is a place left.
 -- Assumes nothing.
 use Prim.Native.Nat.{ℕ, _+_}
-use mathlib.Core.Path.{_≡_, sym, _∙_, subst}
+use mathlib.Core.Path.{sym, _∙_, subst}
 use mathlib.Core.List.{List}
 use native.Mathlib.Omega.{arith}
 use borrow.Author.Needs.{needs}
-use lib.Dec.{T, not-T}
+use lib.Dec.{not-T}
 use Rattle.meaning.specs.Heap.{pile}
 use Rattle.meaning.proofs.Heaps.{pile-intro, pile-name}
 use Rattle.weighing.specs.Table.{held}
@@ -15,11 +15,6 @@ use Rattle.weighing.proofs.TableHeld.{held-symmetric}
 use Rattle.weighing.proofs.WaysListed.{listed-put, listed-outside, listed-nought}
 use Rattle.weighing.proofs.ways.list_pair.Statement.{statement}
 use Rattle.weighing.proofs.ways.list_pair.Tie as tie
-use Rattle.weighing.proofs.ways.list_pair.Reads as reads
-use Rattle.weighing.proofs.ways.list_pair.Lts as lts
-use Rattle.weighing.proofs.scan.bone.Reads as bone-reads
-use Rattle.weighing.proofs.ways.put_way.Reads as put-way-reads
-use Rattle.weighing.proofs.ways.room_of.Reads as room-of-reads
 
 -- src/ways.rt:90:9
 room-of-requires : tie.Need-room-of-requires

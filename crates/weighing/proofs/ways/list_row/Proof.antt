@@ -9,9 +9,6 @@ use Rattle.weighing.specs.Flow.{Listed}
 use Rattle.weighing.proofs.WaysListed.{listed-row}
 use Rattle.weighing.proofs.ways.list_row.Statement.{statement}
 use Rattle.weighing.proofs.ways.list_row.Tie as tie
-use Rattle.weighing.proofs.ways.list_row.Reads as reads
-use Rattle.weighing.proofs.ways.list_row.Lts as lts
-use Rattle.weighing.proofs.ways.list_pair.Reads as list-pair-reads
 
 abbrev Inv-loop : tie.InvT-loop
 Inv-loop table names n k p i ways₀ next₀ first₀ m listed₀ j₀ ways next first listed j =

@@ -7,13 +7,9 @@ use Rattle.meaning.specs.Heap.{pile}
 use Rattle.weighing.specs.Table.{held}
 use Rattle.weighing.specs.Side.{heapOf}
 use Rattle.weighing.specs.Flow.{Listed}
-use Rattle.weighing.proofs.WaysListed.{listed-start, listed-all}
+use Rattle.weighing.proofs.WaysListed.{listed-start, listed-all, ready-none}
 use Rattle.weighing.proofs.ways.list_ways.Statement.{statement}
 use Rattle.weighing.proofs.ways.list_ways.Tie as tie
-use Rattle.weighing.proofs.ways.list_ways.Reads as reads
-use Rattle.weighing.proofs.ways.list_ways.Lts as lts
-use Rattle.weighing.proofs.ways.list_bone.Reads as list-bone-reads
-use Rattle.weighing.proofs.ways.no_arcs.Reads as no-arcs-reads
 
 abbrev Inv-loop : tie.InvT-loop
 Inv-loop table names n k p ways₀ next₀ first₀ most m₀ i₀ ways next first m i =
@@ -24,7 +20,7 @@ abbrev μ-loop : tie.MeasureT-loop
 
 -- src/ways.rt:178:9
 returns : tie.Need-returns Inv-loop μ-loop
-returns c = (c .before .pre .1, λ h. absurd (omega arith))
+returns c = ready-none (c .before .pre .1) (omega arith)
 
 -- src/ways.rt:180:16
 cast-most : tie.Need-cast-most Inv-loop μ-loop
@@ -62,7 +58,7 @@ returns-2 c =
     let S = pile (a .n) (heapOf (a .names .now)) (a .p) in
     let all : l .i ≡ a .n = omega arith in
     let so : Listed (held (a .table .now)) (a .k) S (l .ways) (l .m) (a .n) 0 = subst (λ (i : ℕ). Listed (held (a .table .now)) (a .k) S (l .ways) (l .m) i 0) all (l .inv .1) in
-    (so .long, λ h. listed-all (a .n) (held (a .table .now)) (a .k) S (l .ways) (l .m) so h)
+    listed-all (a .n) (held (a .table .now)) (a .k) S (l .ways) (l .m) so
 
 pub list-ways-spec : {M : Type 1} → statement M
 list-ways-spec =

@@ -1,18 +1,13 @@
--- `weighing::probe::send` meets its contract.
+-- `weighing::sending::send` meets its contract: the walk starts at a bone that is not free.
 -- Assumes nothing.
-use Prim.Native.Nat.{ℕ, _+_, _-_, _≤_}
 use native.Mathlib.Omega.{arith}
 use borrow.Author.Needs.{needs}
 use Rattle.meaning.proofs.Tests.{ne→neqb}
 use Rattle.weighing.specs.Scan.{marked}
 use Rattle.weighing.specs.Flow.{unmarked}
 use Rattle.weighing.proofs.ProbeSent.{moved-sends}
-use Rattle.weighing.proofs.probe.send.Statement.{statement}
-use Rattle.weighing.proofs.probe.send.Tie as tie
-use Rattle.weighing.proofs.probe.send.Reads as reads
-use Rattle.weighing.proofs.probe.send.Lts as lts
-use Rattle.weighing.proofs.path.narrow.Reads as narrow-reads
-use Rattle.weighing.proofs.probe.walk.Reads as walk-reads
+use Rattle.weighing.proofs.sending.send.Statement.{statement}
+use Rattle.weighing.proofs.sending.send.Tie as tie
 
 element-copy-out-if2 : tie.Need-element-copy-out-if2
 element-copy-out-if2 c = search needs

@@ -1,17 +1,14 @@
--- `weighing::probe::start` meets its contract: after q turns all room is left at the pairs below q.
+-- `weighing::sending::start` meets its contract: after q turns all room is left at the pairs below q.
 -- Assumes nothing.
-use Prim.Native.Nat.{ℕ, _+_, _-_, _*_, _/_, _≤_, _<_, zero-le}
+use Prim.Native.Nat.{ℕ, _-_, _/_, _≤_, _<_, zero-le}
 use native.Mathlib.Omega.{arith}
 use borrow.Author.Needs.{needs}
 use Rattle.weighing.specs.Flow.{leftOf, waysOf}
 use Rattle.weighing.proofs.Filling.{stored-next}
 use mathlib.Core.Path.{_≡_, _∙_}
 use lib.ListN.{length, getD, length-set}
-use Rattle.weighing.proofs.probe.start.Statement.{statement}
-use Rattle.weighing.proofs.probe.start.Tie as tie
-use Rattle.weighing.proofs.probe.start.Reads as reads
-use Rattle.weighing.proofs.probe.start.Lts as lts
-use Rattle.weighing.proofs.ways.room.Reads as room-reads
+use Rattle.weighing.proofs.sending.start.Statement.{statement}
+use Rattle.weighing.proofs.sending.start.Tie as tie
 
 abbrev Inv-loop : tie.InvT-loop
 Inv-loop ways m res₀ q₀ res q = (q ≤ m) × (length res ≡ 448) × ((i : ℕ) → i < q → getD res i 0 ≡ getD ways i 0 / 65536)

@@ -1,14 +1,9 @@
--- `weighing::probe::step` meets its contract.
+-- `weighing::sending::step` meets its contract, by the arc's direction.
 -- Assumes nothing.
-use Prim.Native.Nat.{ℕ, _+_, _-_, _≤_}
 use native.Mathlib.Omega.{arith}
 use borrow.Author.Needs.{needs}
-use Rattle.weighing.proofs.probe.step.Statement.{statement}
-use Rattle.weighing.proofs.probe.step.Tie as tie
-use Rattle.weighing.proofs.probe.step.Reads as reads
-use Rattle.weighing.proofs.probe.step.Lts as lts
-use Rattle.weighing.proofs.probe.step_back.Reads as step-back-reads
-use Rattle.weighing.proofs.probe.step_forth.Reads as step-forth-reads
+use Rattle.weighing.proofs.sending.step.Statement.{statement}
+use Rattle.weighing.proofs.sending.step.Tie as tie
 
 step-forth-requires : tie.Need-step-forth-requires
 step-forth-requires c κs = search needs

@@ -1,18 +1,12 @@
--- `weighing::probe::step_back` meets its contract.
+-- `weighing::sending::step_back` meets its contract: where every check passes, d moves over the pair.
 -- Assumes nothing.
-use Prim.Native.Nat.{ℕ, _+_, _-_, _≤_}
 use native.Mathlib.Omega.{arith}
 use borrow.Author.Needs.{needs}
-use mathlib.Core.Path.{_≡_, sym, _∙_}
+use mathlib.Core.Path.{sym, _∙_}
 use lib.ListN.{length-set}
 use Rattle.weighing.proofs.ProbeSent.{moved-back}
-use Rattle.weighing.proofs.probe.step_back.Statement.{statement}
-use Rattle.weighing.proofs.probe.step_back.Tie as tie
-use Rattle.weighing.proofs.probe.step_back.Reads as reads
-use Rattle.weighing.proofs.probe.step_back.Lts as lts
-use Rattle.weighing.proofs.ways.end_x.Reads as end-x-reads
-use Rattle.weighing.proofs.ways.end_y.Reads as end-y-reads
-use Rattle.weighing.proofs.ways.room.Reads as room-reads
+use Rattle.weighing.proofs.sending.step_back.Statement.{statement}
+use Rattle.weighing.proofs.sending.step_back.Tie as tie
 
 mul-way : tie.Need-mul-way
 mul-way c = search needs

@@ -1,19 +1,15 @@
--- `weighing::probe::walk` meets its contract: d is on its way from bone b.
+-- `weighing::sending::walk` meets its contract: d is on its way from bone b.
 -- Assumes nothing.
-use Prim.Native.Nat.{ℕ, _+_, _-_, _*_, _/_, _≤_, zero-le}
+use Prim.Native.Nat.{ℕ, _-_, _≤_, zero-le}
 use native.Mathlib.Omega.{arith}
 use borrow.Author.Needs.{needs}
-use mathlib.Core.Path.{_≡_, sym, _∙_, subst}
+use mathlib.Core.Path.{_≡_, sym, subst}
 use lib.Dec.{T}
 use lib.ListN.{length}
 use Rattle.weighing.specs.Flow.{waysOf, Moved}
 use Rattle.weighing.proofs.ProbeSent.{moved-none, moved-more}
-use Rattle.weighing.proofs.probe.walk.Statement.{statement}
-use Rattle.weighing.proofs.probe.walk.Tie as tie
-use Rattle.weighing.proofs.probe.walk.Reads as reads
-use Rattle.weighing.proofs.probe.walk.Lts as lts
-use Rattle.weighing.proofs.path.arc_back.Reads as arc-back-reads
-use Rattle.weighing.proofs.probe.step.Reads as step-reads
+use Rattle.weighing.proofs.sending.walk.Statement.{statement}
+use Rattle.weighing.proofs.sending.walk.Tie as tie
 
 abbrev Inv-loop : tie.InvT-loop
 Inv-loop ways m path t met d res₀ b₀ turns₀ res b turns = (turns ≤ 128) × (length res ≡ 448) × Moved (waysOf ways m) res₀ res met b d
