@@ -1,5 +1,5 @@
 -- What the calls promise: the answer, and every lent byte afterwards.
-use Prim.Native.Nat.{ℕ, zero, suc, _*_, _-_}
+use Prim.Native.Nat.{ℕ, zero, suc, _*_, _-_, _/_, _%_}
 use mathlib.Core.Path.{_≡_}
 use mathlib.Core.Bool.{Bool, true, false, cond}
 use mathlib.Core.List.{List, [], _∷_, _++_}
@@ -32,17 +32,23 @@ names (suc n) h = names n h ++ h n ∷ []
 unfoldable pub written : ℕ → Heap → List ℕ → List ℕ
 written n h room = names n h ++ drop n room
 
+-- bytes written to the front of lent room
+unfoldable pub over : List ℕ → List ℕ → List ℕ
+over bytes room = bytes ++ drop (length bytes) room
+
 -- an answer: the refusal, or a number and whether the run is finished
 unfoldable pub answered : Judged → ℕ → Bool → Answer
 answered Accepted count done = Gave count done
 answered (Refused number place) count done = Refused·answer number place
 
--- checking: the piles that the record leaves
-pub record Checking (n k : ℕ) (good : Bool) (links : List Link) (bytes labels labels′ : List ℕ) (r : Answer) : Type 0 where
-  pub answer : r ≡ answered (first (checkingRows n k good links bytes (length labels)))
-      (piles n (left n start (cutsOf bytes)))
-      (finished n (pairTally links) k (left n start (cutsOf bytes)))
-  pub names-left : labels′ ≡ settled (first (checkingRows n k good links bytes (length labels))) labels (written n (left n start (cutsOf bytes)) labels)
+-- checking: the piles that the record leaves. `rows` is what is tried, and w the tally that the links make
+pub record Checked (rows : List Judged) (n : ℕ) (w : Tally) (k : ℕ) (bytes labels labels′ : List ℕ) (r : Answer) : Type 0 where
+  pub answer : r ≡ answered (first rows) (piles n (left n start (cutsOf bytes))) (finished n w k (left n start (cutsOf bytes)))
+  pub names-left : labels′ ≡ settled (first rows) labels (written n (left n start (cutsOf bytes)) labels)
+
+abbrev pub Checking : ℕ → ℕ → Bool → List Link → List ℕ → List ℕ → List ℕ → Answer → Type 0
+Checking n k good links bytes labels labels′ r =
+    Checked (checkingRows n k good links bytes (length labels)) n (pairTally links) k bytes labels labels′ r
 
 -- grouping's record: the given entries, then its own, a lawful run and finished; the rest stays
 pub record Continued (n : ℕ) (w : Tally) (k : ℕ) (bytes space space′ : List ℕ) : Type 0 where
@@ -56,16 +62,32 @@ Recorded Accepted n w k bytes space space′ = Continued n w k bytes space space
 Recorded (Refused number place) n w k bytes space space′ = space′ ≡ space
 
 -- grouping: the groups, their labels, and the record
-pub record Grouping (n k : ℕ) (good : Bool) (links : List Link) (bytes labels labels′ space space′ : List ℕ) (r : Answer) : Type 0 where
-  pub answer : r ≡ answered (first (groupingRows n k good links bytes (length labels) (length space))) (groups n (pairTally links) k) true
-  pub labels-left : labels′ ≡ settled (first (groupingRows n k good links bytes (length labels) (length space))) labels (written n (label n (pairTally links) k) labels)
-  pub record-left : Recorded (first (groupingRows n k good links bytes (length labels) (length space))) n (pairTally links) k bytes space space′
+pub record Grouped (rows : List Judged) (n : ℕ) (w : Tally) (k : ℕ) (bytes labels labels′ space space′ : List ℕ) (r : Answer) : Type 0 where
+  pub answer : r ≡ answered (first rows) (groups n w k) true
+  pub labels-left : labels′ ≡ settled (first rows) labels (written n (label n w k) labels)
+  pub record-left : Recorded (first rows) n w k bytes space space′
 
--- thinning: the links whose ends share a group, in order
-unfoldable pub thinned : ℕ → Tally → ℕ → List Link → List Link
-thinned n w k [] = []
-thinned n w k (l ∷ ls) = cond (eqb (label n w k (l .a)) (label n w k (l .b))) (l ∷ thinned n w k ls) (thinned n w k ls)
+abbrev pub Grouping : ℕ → ℕ → Bool → List Link → List ℕ → List ℕ → List ℕ → List ℕ → List ℕ → Answer → Type 0
+Grouping n k good links bytes labels labels′ space space′ r =
+    Grouped (groupingRows n k good links bytes (length labels) (length space)) n (pairTally links) k bytes labels labels′ space space′ r
+
+-- thinning: the links whose ends share a group, in order, as bytes; the rest stays
+unfoldable pub kept : Heap → List Link → List Link
+kept h [] = []
+kept h (l ∷ ls) = cond (eqb (h (l .a)) (h (l .b))) (l ∷ kept h ls) (kept h ls)
+
+unfoldable pub linkBytes : List Link → List ℕ
+linkBytes [] = []
+linkBytes (l ∷ ls) = l .a ∷ l .b ∷ l .tally / 256 ∷ l .tally % 256 ∷ linkBytes ls
 
 unfoldable pub keeping : Judged → ℕ → Thinned
 keeping Accepted count = Kept count
 keeping (Refused number place) count = Refused·thinned number place
+
+pub record Thins (rows : List Judged) (n : ℕ) (w : Tally) (k : ℕ) (links : List Link) (space space′ : List ℕ) (r : Thinned) : Type 0 where
+  pub answer : r ≡ keeping (first rows) (length (kept (label n w k) links))
+  pub links-left : space′ ≡ settled (first rows) space (over (linkBytes (kept (label n w k) links)) space)
+
+abbrev pub Thinning : ℕ → ℕ → Bool → List Link → List ℕ → List ℕ → Thinned → Type 0
+Thinning n k good links space space′ r =
+    Thins (thinningRows n k good links (length space / 4)) n (pairTally links) k links space space′ r

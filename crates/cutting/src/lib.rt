@@ -1,5 +1,15 @@
 // Cutting: the record of cuts, checking, grouping and thinning, and the calls from C.
+pub mod calls;
+mod check;
+mod group;
+mod heap;
+mod judging;
 pub mod record;
+mod thin;
+
+pub use check::checking;
+pub use group::grouping;
+pub use thin::thinning;
 
 // What grouping and checking answer: a refusal of the table with its place, or the number of groups (of piles) and whether the run of cuts
 // is finished.

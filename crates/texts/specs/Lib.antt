@@ -2,4 +2,7 @@
 pub mod Frame
 pub mod Lines
 pub mod Reader
+pub mod Walk
+pub mod Judging
+pub mod Storing
 pub mod Writers

@@ -6,6 +6,8 @@ use lib.Dec.{eqb}
 use lib.ListN.{getD}
 use Rattle.meaning.specs.declared.Judged.{Judged}
 use Rattle.meaning.specs.Judge.{refuse}
+use Rattle.texts.specs.declared.stage.Stage.{Stage}
+use Rattle.texts.specs.declared.stage.Stage.the-variants.{Opening, Linking, Cutting, Closed}
 use Rattle.texts.specs.Frame.{byteSum, bytesOf, wellFormed}
 
 -- a line: its characters, and whether a line feed ended it
@@ -33,29 +35,25 @@ kind l = getD (frame l) 0 0
 unfoldable pub pair : Line → ℕ → ℕ
 pair l i = getD (frame l) i 0 * 256 + getD (frame l) (suc i) 0
 
--- how far an input text has come: nothing yet; after the head; after the first cut; after the close
-pub data Stage : Type 0 where
-  opening linking cutting closed : Stage
-
 -- whether a frame of that kind may stand there: head; links and notes; cuts and notes; close; nothing after
 unfoldable pub follows : Stage → ℕ → Bool
-follows opening kind = eqb kind 1
-follows linking kind = (eqb kind 2 || eqb kind 3) || (eqb kind 5 || eqb kind 6)
-follows cutting kind = eqb kind 3 || (eqb kind 5 || eqb kind 6)
-follows closed kind = false
+follows Opening kind = eqb kind 1
+follows Linking kind = (eqb kind 2 || eqb kind 3) || (eqb kind 5 || eqb kind 6)
+follows Cutting kind = eqb kind 3 || (eqb kind 5 || eqb kind 6)
+follows Closed kind = false
 
 -- and how far the text has come after it
 unfoldable pub after : Stage → ℕ → Stage
-after opening kind = linking
-after linking kind = cond (eqb kind 6) closed (cond (eqb kind 3) cutting linking)
-after cutting kind = cond (eqb kind 6) closed cutting
-after closed kind = closed
+after Opening kind = Linking
+after Linking kind = cond (eqb kind 6) Closed (cond (eqb kind 3) Cutting Linking)
+after Cutting kind = cond (eqb kind 6) Closed Cutting
+after Closed kind = Closed
 
 unfoldable pub open-at : Stage → Bool
-open-at opening = true
-open-at linking = true
-open-at cutting = true
-open-at closed = false
+open-at Opening = true
+open-at Linking = true
+open-at Cutting = true
+open-at Closed = false
 
 -- 16 to 19 on each line in turn, from line i on; a missing close is refused at the line after the last
 unfoldable pub lineRows : Stage → ℕ → List Line → List Judged

@@ -12,7 +12,8 @@ use Rattle.meaning.specs.Judge.{refuse, first}
 use Rattle.cutting.specs.Record.{entrySize}
 use Rattle.texts.specs.declared.Reading.{Reading}
 use Rattle.texts.specs.declared.Reading.the-variants.{Got, Refused as Refused·reading}
-use Rattle.texts.specs.Lines.{Line, linesOf, frame, kind, pair, Stage, opening, lineRows}
+use Rattle.texts.specs.declared.stage.Stage.the-variants.{Opening}
+use Rattle.texts.specs.Lines.{Line, linesOf, frame, kind, pair, lineRows}
 
 -- the link of a frame 02; the entry of a frame 03
 unfoldable pub linkIn : Line → Link
@@ -43,7 +44,7 @@ thresholdIn (l ∷ ls) = pair l 2
 unfoldable pub readerRows : List ℕ → ℕ → ℕ → List Judged
 readerRows text linkRoom recordRoom =
     refuse (ltb 65536 (length text)) 15 0
-    ∷ lineRows opening 0 (linesOf text)
+    ∷ lineRows Opening 0 (linesOf text)
     ++ refuse (ltb 4096 (length (linksIn (linesOf text)))) 3 0
     ∷ refuse (ltb (entrySize * 127) (length (entriesIn (linesOf text)))) 9 0
     ∷ refuse (ltb linkRoom (length (linksIn (linesOf text)))) 14 0

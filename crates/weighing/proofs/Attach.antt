@@ -1,21 +1,21 @@
 -- Runs of sums that grow: by one store, by nothing, in steps; and the tally between two sets bone by bone.
 -- Assumes nothing.
-use Prim.Native.Nat.{ℕ, zero, suc, _+_, _*_, _≤_, _<_, zero-le}
+use Prim.Native.Nat.{ℕ, _+_, _*_, _≤_, _<_, zero-le}
 use mathlib.Core.Path.{_≡_, refl, sym, _∙_, ap, subst}
 use mathlib.Core.Bool.{Bool, true, false, cond, not, _&&_}
 use mathlib.Core.Logic.{⊎-elim}
 use mathlib.Core.List.{List}
-use native.Mathlib.Nat.{le-refl, add-zero, add-mul, one-mul}
+use native.Mathlib.Nat.{add-zero, add-mul, one-mul}
 use native.Mathlib.Numerals.{add-one}
 use native.Mathlib.Omega.{arith}
-use lib.Dec.{T, eqb, eqb→eq, T-not}
+use lib.Dec.{T, eqb, T-not}
 use lib.ListN.{length, getD, set, length-set}
 use lib.Seq.{getD-set-same, getD-set-other}
 use Rattle.meaning.specs.Count.{Bones, sum}
 use Rattle.meaning.specs.Tally.{Tally, total}
 use Rattle.meaning.proofs.Sums.{sum-ext, sum-zero}
-use Rattle.meaning.proofs.Tests.{decide, is-true, is-false, neqb→ne}
-use Rattle.weighing.specs.Scan.{Room, Grown, cross, reaches}
+use Rattle.meaning.proofs.Tests.{decide, is-true, is-false, ne→neqb}
+use Rattle.weighing.specs.Scan.{Room, Grown, cross, reaches, butFor}
 
 cond-most : (b : Bool) (v most : ℕ) → v ≤ most → cond b v 0 ≤ most
 cond-most true v most h = h
@@ -103,3 +103,40 @@ cross-rows n w X Y = sym (sum-ext n _ _ (λ i h. reaches-test n w i (X i) Y))
 -- and at the loop's end
 pub grown-end : {a b : List ℕ} (f : ℕ → ℕ → ℕ) (m i n most : ℕ) → Grown a b (λ x. sum i (f x)) (i * m) → i ≡ n → i * m ≤ most → Grown a b (λ x. sum n (f x)) most
 grown-end f m i n most g e h = grown-as (λ x. sum n (f x)) most g (λ x. ap (λ (k : ℕ). sum k (f x)) e) h
+
+-- sums for every block but u
+pub butFor-other : (u : ℕ) (f : ℕ → ℕ) (x : ℕ) → (x ≡ u → ⊥) → butFor u f x ≡ f x
+unfolding butFor
+butFor-other u f x h = ap (λ (b : Bool). cond b 0 (f x)) (is-false (eqb x u) (ne→neqb x u h))
+
+pub butFor-test : (u v : ℕ) (test : ℕ → Bool) (x : ℕ) → cond (test x && not (eqb x u)) v 0 ≡ butFor u (λ y. cond (test y) v 0) x
+unfolding butFor
+butFor-test u v test x = cases (test x) (eqb x u)
+  where
+    cases : (a b : Bool) → cond (a && not b) v 0 ≡ cond b 0 (cond a v 0)
+    cases true true = refl
+    cases true false = refl
+    cases false true = refl
+    cases false false = refl
+
+pub butFor-sum : (u n : ℕ) (f : ℕ → ℕ → ℕ) (x : ℕ) → sum n (λ i. butFor u (f i) x) ≡ butFor u (λ y. sum n (λ i. f i y)) x
+unfolding butFor
+butFor-sum u n f x = cases (eqb x u)
+  where
+    cases : (b : Bool) → sum n (λ i. cond b 0 (f i x)) ≡ cond b 0 (sum n (λ i. f i x))
+    cases true = sum-zero n
+    cases false = refl
+
+pub butFor-cond : (u : ℕ) (t : Bool) (f : ℕ → ℕ) (x : ℕ) → cond t (butFor u f x) 0 ≡ butFor u (λ y. cond t (f y) 0) x
+unfolding butFor
+butFor-cond u t f x = cases t (eqb x u)
+  where
+    cases : (a b : Bool) → cond a (cond b 0 (f x)) 0 ≡ cond b 0 (cond a (f x) 0)
+    cases true true = refl
+    cases true false = refl
+    cases false true = refl
+    cases false false = refl
+
+pub butFor-same : (u : ℕ) (f g : ℕ → ℕ) (x : ℕ) → f x ≡ g x → butFor u f x ≡ butFor u g x
+unfolding butFor
+butFor-same u f g x e = ap (λ (z : ℕ). cond (eqb x u) 0 z) e

@@ -2,7 +2,6 @@
 -- Assumes nothing.
 use Prim.Native.Nat.{ℕ}
 use mathlib.Core.Path.{_≡_}
-use mathlib.Core.Bool.{_&&_}
 use lib.Dec.{T, eqb, eqb→eq}
 use Rattle.meaning.specs.Count.{Bones}
 use Rattle.meaning.specs.Heap.{Heap}

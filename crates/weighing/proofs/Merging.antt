@@ -1,18 +1,17 @@
 -- Merging blocks over a pass: `next` gives each block that was taken the name that it will bear. Merged blocks keep a light split, there
 -- are fewer of them, and where one is left the pile is firm.
 -- Assumes nothing.
-use Prim.Native.Nat.{ℕ, _+_, _≤_, _<_}
-use mathlib.Core.Path.{_≡_, refl, sym, _∙_, ap, ap₂, subst}
+use Prim.Native.Nat.{ℕ, _+_, _<_}
+use mathlib.Core.Path.{_≡_, refl, sym, _∙_, ap, subst}
 use mathlib.Core.Logic.{_⊎_, inl, inr, ⊎-elim}
-use mathlib.Core.Bool.{Bool, true, false, cond, not, _&&_, _||_, Bool·beq}
-use native.Mathlib.Nat.{le-refl, le-trans, le-of-eq}
+use mathlib.Core.Bool.{Bool, true, false, cond, not, _&&_}
 use native.Mathlib.Omega.{arith}
 use lib.Dec.{T, eqb, leb, eqb→eq, leb→le, nleb→lt, T-not, not-T}
-use Rattle.meaning.specs.Count.{Bones, count, sum}
+use Rattle.meaning.specs.Count.{Bones, count}
 use Rattle.meaning.specs.Tally.{Tally, weight}
 use Rattle.meaning.specs.Firm.{splits, firm}
 use Rattle.meaning.specs.Heap.{Heap}
-use Rattle.meaning.proofs.Tests.{_⇒_, imp, taut, so, _⊃_, decide, same-test, is-true, is-false, eq→eqb, neqb→ne, ne→neqb, both, left-of, right-of, either}
+use Rattle.meaning.proofs.Tests.{taut, so, _⊃_, decide, is-true, eq→eqb, both, left-of, right-of}
 use Rattle.meaning.proofs.Sums.{sum-ext, sum-add, sum-term}
 use Rattle.meaning.proofs.Firm.{weight-same, weight-inside, splits-intro, splits-elim, firm-intro}
 use Rattle.weighing.specs.Scan.{BlockNames, blocks, Kept}

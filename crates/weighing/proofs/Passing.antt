@@ -1,8 +1,8 @@
 -- A pass from its start to each of its ends, as the arrays hold it.
 -- Assumes nothing.
-use Prim.Native.Nat.{ℕ, _+_, _≤_, _<_}
-use mathlib.Core.Path.{_≡_, refl, sym, _∙_, ap, subst}
-use mathlib.Core.Logic.{_⊎_, inl, inr, ⊎-elim}
+use Prim.Native.Nat.{ℕ, _≤_, _<_}
+use mathlib.Core.Path.{_≡_, refl, sym, _∙_, subst}
+use mathlib.Core.Logic.{inl, inr, ⊎-elim}
 use mathlib.Core.Bool.{Bool, true, false, cond, not, _&&_}
 use mathlib.Core.List.{List}
 use native.Mathlib.Omega.{arith}
@@ -15,7 +15,7 @@ use Rattle.meaning.specs.Heap.{Heap}
 use Rattle.meaning.proofs.Tests.{decide, taut, so, _⊃_}
 use Rattle.meaning.proofs.Totals.{Symmetric}
 use Rattle.weighing.specs.Side.{heapOf}
-use Rattle.weighing.specs.Scan.{inBlock, cross, marked, blocks, Room, Grown, Filled, Picked, BlockNames, Kept, Passed}
+use Rattle.weighing.specs.Scan.{inBlock, cross, marked, Room, Grown, Filled, Picked, BlockNames, Passed, butFor}
 use Rattle.weighing.proofs.Adjacency.{light-joins}
 use Rattle.weighing.proofs.Merging.{Gone, Choice, names-after, kept-after, fewer-after}
 use Rattle.weighing.proofs.Filling.{cond-yes, cond-no}
@@ -82,7 +82,7 @@ module _ {n : ℕ} {w : Tally} {k : ℕ} {S : Bones} {p : ℕ} {block : List ℕ
     pub start-room : Room (replicate 128 0) 70368744177664
     start-room = state-room begin
 
-    module _ (attach : List ℕ) (grown : Grown (replicate 128 0) attach (λ x. cross n w (inBlock S (heapOf block) (heapOf block p)) (inBlock S (heapOf block) x)) 70368744177664) where
+    module _ (attach : List ℕ) (grown : Grown (replicate 128 0) attach (butFor (heapOf block p) (λ x. cross n w (inBlock S (heapOf block) (heapOf block p)) (inBlock S (heapOf block) x))) 70368744177664) where
       pub start-state : State n w k S (heapOf block) (set free (heapOf block p) 0) attach (set (replicate 128 0) (heapOf block p) (heapOf block p)) (heapOf block p)
       start-state =
           state-taken n w symmetric k S (heapOf block) below most free (replicate 128 0) (replicate 128 0) attach 0 (heapOf block p) (heapOf block p) begin
@@ -142,11 +142,11 @@ module _ {n : ℕ} {w : Tally} {k : ℕ} {S : Bones} {p : ℕ} {block : List ℕ
     unfolding new
     choice =
         ⊎-elim
-        (λ t. inr (last, pass .gone, sym (cond-yes (leb k (getD attach u 0)) (heapOf next last) u t), λ d light. light-joins n w symmetric S (heapOf block) (marked free) k u last (pass .state .bounded) isfree (omega (arith, leb→le k (getD attach u 0) t, pass .state .attached u)) d light))
+        (λ t. inr (last, pass .gone, sym (cond-yes (leb k (getD attach u 0)) (heapOf next last) u t), λ d light. light-joins n w symmetric S (heapOf block) (marked free) k u last (pass .state .bounded) isfree (omega (arith, leb→le k (getD attach u 0) t, pass .state .attached u isfree)) d light))
         (λ f. inl (sym (cond-no (leb k (getD attach u 0)) (heapOf next last) u f)))
         (decide (leb k (getD attach u 0)))
 
-    module _ (attach′ : List ℕ) (grown : Grown attach attach′ (λ x. cross n w (inBlock S (heapOf block) u) (inBlock S (heapOf block) x)) 70368744177664) where
+    module _ (attach′ : List ℕ) (grown : Grown attach attach′ (butFor u (λ x. cross n w (inBlock S (heapOf block) u) (inBlock S (heapOf block) x))) 70368744177664) where
       pub next-state : State n w k S (heapOf block) (set free u 0) attach′ (set next u (cond (leb k (getD attach u 0)) (heapOf next last) u)) u
       unfolding new
       next-state =
@@ -182,8 +182,8 @@ module _ {n : ℕ} {w : Tally} {k : ℕ} {S : Bones} {p : ℕ} {block : List ℕ
               ∙ e
 
   -- ---- the end: nothing is free
-  pub passed-joined : (free attach next block′ : List ℕ) (last u out : ℕ) → Pass n w k S p (heapOf block) free attach next last u out → 128 ≤ u → Filled block block′ (λ b. cond (S b) (heapOf next (heapOf block b)) (heapOf block b)) n → Passed n w k S p (heapOf block) block′ free false false 0
-  passed-joined free attach next block′ last u out pass none filled =
+  pub passed-joined : (free attach next block′ : List ℕ) (last u out : ℕ) (one : Bool) → Pass n w k S p (heapOf block) free attach next last u out → 128 ≤ u → Filled block block′ (λ b. cond (S b) (heapOf next (heapOf block b)) (heapOf block b)) n → (one ≡ true → (b : ℕ) → T (S b) → heapOf block′ b ≡ heapOf block′ p) → Passed n w k S p (heapOf block) block′ free false one 0
+  passed-joined free attach next block′ last u out one pass none filled all =
       record {
         long = filled .long;
         free-long = pass .state .free-long;
@@ -191,7 +191,7 @@ module _ {n : ℕ} {w : Tally} {k : ℕ} {S : Bones} {p : ℕ} {block : List ℕ
         names = names-after n w k S (heapOf block) (marked free) (heapOf next) (heapOf block′) names shut (pass .state .merged) renamed;
         kept = kept-after n w k S (heapOf block) (marked free) (heapOf next) (heapOf block′) names shut (pass .state .merged) renamed;
         found = λ e. absurd (false-true e);
-        alone = λ e f. absurd (false-true f);
+        alone = λ e f. all f;
         fewer = λ e f. fewer-after n w k S (heapOf block) (marked free) (heapOf next) (heapOf block′) names shut (pass .state .merged) renamed last (below last (pass .gone .bone)) (pass .gone) (pass .lost none);
       }
     where

@@ -7,7 +7,6 @@ use mathlib.Core.Bool.{Bool, not, _&&_}
 use mathlib.Core.List.{List}
 use native.Mathlib.Omega.{arith}
 use lib.Dec.{T, eqb, eqb-refl, T-not, not-T}
-use lib.ListN.{length}
 use Rattle.meaning.specs.Count.{Bones}
 use Rattle.meaning.specs.Tally.{Tally, Symmetric, weight}
 use Rattle.meaning.proofs.Tests.{both, left-of, right-of, decide, same-test, taut, so, _⊃_}
@@ -15,8 +14,8 @@ use Rattle.meaning.proofs.Sets.{some-intro}
 use Rattle.meaning.proofs.Totals.{total-ext}
 use Rattle.meaning.proofs.Firm.{other, weight-other, weight-same}
 use Rattle.weighing.specs.Scan.{marked, untaken, LightSide}
-use Rattle.weighing.specs.Grow.{beside}
-use Rattle.weighing.specs.Flow.{Ways, Carried, Lists, unmarked, Flowed, Told}
+use Rattle.weighing.specs.Grow.{beside, joined, LightMarks, Probed}
+use Rattle.weighing.specs.Flow.{Ways, Carried, Lists, unmarked, Flowed}
 use Rattle.weighing.proofs.WaysListed.{lists-carried, lists-light}
 
 -- the bones of S that are not in B
@@ -35,8 +34,8 @@ weight-out n w S B = total-ext n w _ _ (λ i j hi hj. out-same (S i) (B i) (S j)
 
 module _ (n : ℕ) (w : Tally) (k : ℕ) (S : Bones) (ways : Ways) (all : Lists n w k S ways) (t : ℕ) (free marks : List ℕ) (verdict weighs : ℕ) (found : Flowed ways k t (unmarked free) marks verdict weighs) where
   -- verdict 1: every split that parts t from the set weighs k or more
-  flow-tied : Symmetric w → T (S t) → verdict ≡ 1 → (B : Bones) → ((x : ℕ) → T (S x && not (marked free x)) → T (B x)) → T (not (B t)) → k ≤ weight n w S B
-  unfolding Carried left-out unmarked
+  flow-tied : Symmetric w → T (S t) → verdict ≡ 1 → (B : Bones) → ((x : ℕ) → T (joined S (marked free) x) → T (B x)) → T (not (B t)) → k ≤ weight n w S B
+  unfolding Carried left-out unmarked joined
   flow-tied symmetric here e B holds apart =
       omega (
         arith,
@@ -81,33 +80,22 @@ module _ (n : ℕ) (w : Tally) (k : ℕ) (S : Bones) (ways : Ways) (all : Lists 
         }
 
     -- what a probe that found no light side tells, and one that found one
-    pub told-none : Symmetric w → length free ≡ 128 → T (marked free t) → (verdict ≡ 2 → ⊥) → Told n w k S p t free free verdict weighs
-    told-none symmetric long here other-verdict =
-        record {
-          long = long;
-          same = λ e. refl;
-          tied = flow-tied symmetric (in-pile t here);
-          rest = λ e. absurd (other-verdict e);
-          side = λ e. absurd (other-verdict e);
-        }
+    pub probed-none : Symmetric w → T (marked free t) → (verdict ≡ 2 → ⊥) → Probed n w k S p t free free verdict weighs
+    probed-none symmetric here not-light =
+        record { same = λ e. refl; tied = flow-tied symmetric (in-pile t here); found = λ e. absurd (not-light e) }
 
-    pub told-light : verdict ≡ 2 → Told n w k S p t free marks verdict weighs
-    told-light e =
+    pub probed-light : verdict ≡ 2 → Probed n w k S p t free marks verdict weighs
+    probed-light e =
         record {
-          long = found .long;
           same = λ o. absurd (o e);
           tied = λ o. absurd (omega arith);
-          rest = λ o x h. not-T (marked marks x) (λ m. absurd (omega (arith, below x (in-pile x (marked-free e x m)))));
-          side = flow-side;
+          found = λ o. record {
+            long = found .long;
+            rest = λ x h. not-T (marked marks x) (λ m. absurd (omega (arith, below x (in-pile x (marked-free e x m)))));
+            side = flow-side e;
+          };
         }
 
 -- where nothing was tried
-pub told-nothing : {n : ℕ} {w : Tally} {k : ℕ} {S : Bones} {p t : ℕ} {free : List ℕ} → length free ≡ 128 → Told n w k S p t free free 0 0
-told-nothing long =
-    record {
-      long = long;
-      same = λ e. refl;
-      tied = λ e. absurd (omega arith);
-      rest = λ e. absurd (omega arith);
-      side = λ e. absurd (omega arith);
-    }
+pub probed-nothing : {n : ℕ} {w : Tally} {k : ℕ} {S : Bones} {p t : ℕ} {free : List ℕ} → Probed n w k S p t free free 0 0
+probed-nothing = record { same = λ e. refl; tied = λ e. absurd (omega arith); found = λ e. absurd (omega arith) }

@@ -1,32 +1,33 @@
 -- The state of a pass as its arrays hold it: marks of the free blocks, attachments, and the names that the blocks taken will bear.
 -- Assumes nothing.
-use Prim.Native.Nat.{ℕ, zero, suc, _+_, _*_, _≤_, _<_, zero-le}
+use Prim.Native.Nat.{ℕ, zero, suc, _+_, _*_, _≤_, _<_}
 use mathlib.Core.Path.{_≡_, refl, sym, _∙_, ap, subst}
-use mathlib.Core.Logic.{_⊎_, inl, inr, ⊎-elim}
+use mathlib.Core.Logic.{⊎-elim}
 use mathlib.Core.Bool.{Bool, true, false, cond, not, _&&_, Bool·beq}
 use mathlib.Core.List.{List}
-use native.Mathlib.Nat.{le-refl, le-trans, le-of-eq}
+use native.Mathlib.Nat.{le-trans, le-of-eq}
 use native.Mathlib.Omega.{arith}
-use lib.Dec.{T, eqb, leb, ltb, eqb→eq, ltb→lt, nltb→le, le→leb, leb→le, T-not, not-T}
+use lib.Dec.{T, eqb, ltb, eqb→eq, ltb→lt, nltb→le, T-not}
 use lib.ListN.{length, getD, set, replicate, length-set, length-replicate}
 use lib.Seq.{getD-set-same, getD-set-other}
-use Rattle.meaning.specs.Count.{Bones, sum, count, some}
+use Rattle.meaning.specs.Count.{Bones, count}
 use Rattle.meaning.specs.Tally.{Tally, weight}
 use Rattle.meaning.specs.Heap.{Heap}
-use Rattle.meaning.proofs.Tests.{decide, same-test, taut, so, _⊃_, _⇒_, both, left-of, right-of, is-true, is-false, eq→eqb, neqb→ne, ne→neqb, holds, fails}
+use Rattle.meaning.proofs.Tests.{decide, taut, so, _⊃_, both, left-of, right-of, eq→eqb, neqb→ne}
 use Rattle.meaning.proofs.Totals.{Symmetric}
 use Rattle.meaning.proofs.Sums.{sum-ext, count-most}
 use Rattle.meaning.proofs.Sets.{some-intro}
 use Rattle.weighing.specs.Side.{heapOf}
-use Rattle.weighing.specs.Scan.{inBlock, taken, untaken, cross, marked, blocks, Room, Grown, Filled, Picked, BlockNames, Kept, LightSide, Passed}
-use Rattle.weighing.proofs.Adjacency.{same-beq, Closed, Bounded, Greatest, cross-taken, cross-none, bounded-taken, bounded-none, light-joins, out-weight, untaken-weight, last-weight}
-use Rattle.weighing.proofs.Merging.{Gone, Merged, Choice, merged-none, merged-taken, gone-u, gone-still, count-fewer}
+use Rattle.weighing.specs.Scan.{inBlock, taken, untaken, cross, marked, Grown, Filled, Picked, BlockNames, LightSide, butFor}
+use Rattle.weighing.proofs.Attach.{butFor-other}
+use Rattle.weighing.proofs.Adjacency.{same-beq, Closed, Bounded, Greatest, cross-taken, cross-none, bounded-taken, bounded-none, out-weight, untaken-weight, last-weight}
+use Rattle.weighing.proofs.Merging.{Gone, Merged, Choice, merged-none, merged-taken, gone-u, count-fewer}
 
 pub record State (n : ℕ) (w : Tally) (k : ℕ) (S : Bones) (name : Heap) (free attach next : List ℕ) (last : ℕ) : Type 0 where
   pub free-long : length free ≡ 128
   pub next-long : length next ≡ 128
   pub attach-long : length attach ≡ 128
-  pub attached : (x : ℕ) → getD attach x 0 ≡ cross n w (taken S name (marked free)) (inBlock S name x)
+  pub attached : (x : ℕ) → T (marked free x) → getD attach x 0 ≡ cross n w (taken S name (marked free)) (inBlock S name x)
   pub bounded : Bounded n w S name (marked free) last
   pub merged : Merged n w k S name (marked free) (heapOf next)
   pub reps : (x : ℕ) → T (marked free x) → T (S x) × (name x ≡ x)
@@ -58,6 +59,10 @@ closed-set free u long below x = ⊎-elim here there (decide (eqb x u))
         stays false b t = refl
         stays true true t = absurd t
 
+cond-on : (t : Bool) (a b : ℕ) → (T t → a ≡ b) → cond t a 0 ≡ cond t b 0
+cond-on true a b f = f tt
+cond-on false a b f = refl
+
 pub zeros : (m x : ℕ) → _≡_ {A = ℕ} (getD (replicate m 0) x 0) 0
 zeros zero x = refl
 zeros (suc m) zero = refl
@@ -76,12 +81,12 @@ module _ (n : ℕ) (w : Tally) (symmetric : Symmetric w) (k : ℕ) (S : Bones) (
   module _ (free attach next : List ℕ) (v : ℕ) (s : State n w k S name free attach next v) (u out : ℕ) (picked : Picked n (marked free) attach u out) where
     pub picked-greatest : u < 128 → Greatest n w S name (marked free) u
     picked-greatest h x t =
-        le-trans (le-of-eq (sym (s .attached x))) (le-trans (picked .greatest h x (below x (s .reps x t .0)) t) (le-of-eq (s .attached u)))
+        le-trans (le-of-eq (sym (s .attached x t))) (le-trans (picked .greatest h x (below x (s .reps x t .0)) t) (le-of-eq (s .attached u (picked .one h))))
 
     pub picked-weight : BlockNames S name → out ≡ weight n w S (taken S name (marked free))
     picked-weight names =
         picked .sums
-        ∙ sum-ext n _ _ (λ x h. ap (λ (z : ℕ). cond (marked free x) z 0) (s .attached x))
+        ∙ sum-ext n _ _ (λ x h. cond-on (marked free x) _ _ (s .attached x))
         ∙ out-weight n w symmetric S name (marked free) (λ b t. below (name b) (names .inside b t))
 
     -- those that are free are a light side
@@ -95,7 +100,7 @@ module _ (n : ℕ) (w : Tally) (symmetric : Symmetric w) (k : ℕ) (S : Bones) (
         }
 
   -- one more block is taken
-  module _ (free attach next attach′ : List ℕ) (v u y : ℕ) (s : State n w k S name free attach next v) (isfree : T (marked free u)) (greatest : Greatest n w S name (marked free) u) (grown : Grown attach attach′ (λ x. cross n w (inBlock S name u) (inBlock S name x)) 70368744177664) (choice : Choice n w k S name (marked free) (heapOf next) u y) where
+  module _ (free attach next attach′ : List ℕ) (v u y : ℕ) (s : State n w k S name free attach next v) (isfree : T (marked free u)) (greatest : Greatest n w S name (marked free) u) (grown : Grown attach attach′ (butFor u (λ x. cross n w (inBlock S name u) (inBlock S name x))) 70368744177664) (choice : Choice n w k S name (marked free) (heapOf next) u y) where
     small : u < 128
     small = omega (arith, below u (s .reps u isfree .0))
 
@@ -104,6 +109,9 @@ module _ (n : ℕ) (w : Tally) (symmetric : Symmetric w) (k : ℕ) (S : Bones) (
 
     still : (x : ℕ) → T (marked (set free u 0) x) → T (marked free x)
     still x t = left-of (marked free x) (not (eqb x u)) (subst T (closed x) t)
+
+    not-u : (x : ℕ) → T (marked (set free u 0) x) → x ≡ u → ⊥
+    not-u x t = neqb→ne x u (right-of (marked free x) (not (eqb x u)) (subst T (closed x) t))
 
     pub count-taken : count n (marked (set free u 0)) < count n (marked free)
     count-taken =
@@ -125,7 +133,11 @@ module _ (n : ℕ) (w : Tally) (symmetric : Symmetric w) (k : ℕ) (S : Bones) (
           free-long = length-set free u 0 ∙ s .free-long;
           next-long = length-set next u y ∙ s .next-long;
           attach-long = grown .long;
-          attached = λ x. grown .grown x ∙ ap (λ (z : ℕ). z + cross n w (inBlock S name u) (inBlock S name x)) (s .attached x) ∙ sym (cross-taken n w symmetric S name (marked free) (marked (set free u 0)) u isfree closed (inBlock S name x));
+          attached = λ x t.
+              grown .grown x
+              ∙ ap (λ (z : ℕ). z + butFor u (λ y. cross n w (inBlock S name u) (inBlock S name y)) x) (s .attached x (still x t))
+              ∙ ap (λ (z : ℕ). cross n w (taken S name (marked free)) (inBlock S name x) + z) (butFor-other u (λ y. cross n w (inBlock S name u) (inBlock S name y)) x (not-u x t))
+              ∙ sym (cross-taken n w symmetric S name (marked free) (marked (set free u 0)) u isfree closed (inBlock S name x));
           bounded = bounded-taken n w symmetric S name (marked free) (marked (set free u 0)) u isfree closed v (s .bounded) greatest;
           merged = merged-taken n w k S name (marked free) (marked (set free u 0)) (heapOf next) (heapOf (set next u y)) u isfree (s .reps u isfree .0) (s .reps u isfree .1) closed (s .merged) next-other (subst (Choice n w k S name (marked free) (heapOf next) u) (sym next-at) choice);
           reps = λ x t. s .reps x (still x t);
@@ -138,7 +150,7 @@ module _ (n : ℕ) (w : Tally) (symmetric : Symmetric w) (k : ℕ) (S : Bones) (
     -- where nothing is free any more and those taken before weigh k or more, so does u's attachment
     pub lost-taken : BlockNames S name → (out : ℕ) → Picked n (marked free) attach u out → k ≤ out → ((x : ℕ) → x < n → T (not (marked (set free u 0) x))) → k ≤ getD attach u 0
     lost-taken names out picked heavy none =
-        omega (arith, heavy, picked-weight free attach next v s u out picked names, last-weight n w symmetric S name (marked free) u only, s .attached u)
+        omega (arith, heavy, picked-weight free attach next v s u out picked names, last-weight n w symmetric S name (marked free) u only, s .attached u isfree)
       where
         only : (x : ℕ) → T (marked free x) → x ≡ u
         only x t = eqb→eq x u (taut 3 (λ a b e. (Bool·beq b (a && not e)) ⊃ a ⊃ (not b) ⊃ so e) tt (marked free x) (marked (set free u 0) x) (eqb x u) (same-beq _ _ (closed x)) t (none x (below x (s .reps x t .0))))
@@ -185,7 +197,7 @@ module _ (n : ℕ) (w : Tally) (symmetric : Symmetric w) (k : ℕ) (S : Bones) (
           free-long = filled .long;
           next-long = next-long;
           attach-long = length-replicate {A = ℕ} 128 0;
-          attached = λ x. zeros 128 x ∙ sym (none-attached x);
+          attached = λ x t. zeros 128 x ∙ sym (none-attached x);
           bounded = bounded-none n w symmetric S name (marked free) v start-free;
           merged = merged-none n w k S name (marked free) (heapOf next) start-free;
           reps = start-reps;

@@ -7,17 +7,17 @@ use mathlib.Core.List.{List}
 use native.Mathlib.Numerals.{add-one}
 use native.Mathlib.Omega.{arith}
 use mathlib.Core.Logic.{⊎-elim}
-use lib.Dec.{T, eqb, eqb→eq}
-use Rattle.meaning.specs.Count.{Bones, some}
-use Rattle.meaning.specs.Tally.{Tally, weight}
+use lib.Dec.{T}
+use Rattle.meaning.specs.Count.{Bones}
+use Rattle.meaning.specs.Tally.{Tally}
 use Rattle.meaning.specs.Firm.{firm}
-use Rattle.meaning.specs.Heap.{Heap, Cut, Lawful, pile, stands}
+use Rattle.meaning.specs.Heap.{Heap, Lawful, pile, stands}
 use Rattle.meaning.proofs.Tests.{left-of}
 use Rattle.meaning.proofs.Sets.{some-same, last-or-below}
 use Rattle.meaning.proofs.Firm.{weight-same}
-use Rattle.weighing.specs.Side.{sideOf, heapOf}
+use Rattle.weighing.specs.Side.{heapOf}
 use Rattle.weighing.specs.Search.{FirmPiles}
-use Rattle.weighing.specs.Scan.{untaken, marked, LightSide, Filled, BlockNames, Kept}
+use Rattle.weighing.specs.Scan.{untaken, LightSide, Filled, BlockNames, Kept}
 use Rattle.weighing.proofs.Merging.{kept-single}
 
 untaken-inside : (S : Bones) (name : Heap) (free : Bones) (b : ℕ) → T (untaken S name free b) → T (S b)

@@ -8,7 +8,7 @@ use lib.Dec.{T}
 use lib.ListN.{length, getD}
 use Rattle.meaning.specs.Count.{Bones, sum}
 use Rattle.meaning.specs.Tally.{Tally, weight}
-use Rattle.weighing.specs.Scan.{marked, LightSide}
+use Rattle.weighing.specs.Scan.{marked}
 
 pub record Ways : Type 0 where
   pub pairs : ℕ
@@ -102,12 +102,3 @@ pub record Flowed (p : Ways) (k t : ℕ) (L : Bones) (marks : List ℕ) (verdict
   pub long : length marks ≡ 128
   pub heavy : verdict ≡ 1 → (A : Bones) → T (A t) → ((b : ℕ) → T (L b) → T (not (A b))) → k ≤ leaves p (p .room) A
   pub low : verdict ≡ 2 → Low p k t L marks weighs
-
--- what a probe of the free bone t of the pile S shows, by its verdict: 1, that every side that holds the bones of S that are not free, and
--- not t, weighs k or more; 2, a light side of S without bone p, whose marks it leaves in place of the free ones; else nothing
-pub record Told (n : ℕ) (w : Tally) (k : ℕ) (S : Bones) (p t : ℕ) (free marks : List ℕ) (verdict weighs : ℕ) : Type 0 where
-  pub long : length marks ≡ 128
-  pub same : (verdict ≡ 2 → ⊥) → marks ≡ free
-  pub tied : verdict ≡ 1 → (B : Bones) → ((x : ℕ) → T (S x && not (marked free x)) → T (B x)) → T (not (B t)) → k ≤ weight n w S B
-  pub rest : verdict ≡ 2 → (x : ℕ) → n ≤ x → T (not (marked marks x))
-  pub side : verdict ≡ 2 → LightSide n w k S p (λ b. b) (marked marks) weighs

@@ -7,3 +7,4 @@ pub mod Weigh
 pub mod Scan
 pub mod Grow
 pub mod Flow
+pub mod Records

@@ -8,12 +8,20 @@ use lib.ListN.{length, getD}
 use Rattle.meaning.specs.Count.{Bones, sum, count, some}
 use Rattle.meaning.specs.Tally.{Tally, total, weight}
 use Rattle.meaning.specs.Firm.{splits}
-use Rattle.meaning.specs.Heap.{Heap}
+use Rattle.meaning.specs.Heap.{Heap, pile}
+use Rattle.weighing.specs.Table.{held}
 use Rattle.weighing.specs.Side.{heapOf}
 
 -- the bones of S in the block named x
 unfoldable pub inBlock : Bones → Heap → ℕ → Bones
 inBlock S name x b = S b && eqb (name b) x
+
+-- the same of runs of bytes: the block named x of the pile named p; that the blocks of the pile bear names of bones
+abbrev pub blockAt : ℕ → List ℕ → ℕ → List ℕ → ℕ → Bones
+blockAt n names p block = inBlock (pile n (heapOf names) p) (heapOf block)
+
+abbrev pub BoneNames : ℕ → List ℕ → ℕ → List ℕ → Type 0
+BoneNames n names p block = (c : ℕ) → T (pile n (heapOf names) p c) → heapOf block c < n
 
 -- a set of names of blocks is free: not taken yet. The bones of S whose blocks were taken; those whose blocks were not
 unfoldable pub taken : Bones → Heap → Bones → Bones
@@ -33,6 +41,17 @@ cross n w X Y = total n w (λ i j. X i && Y j)
 -- the tally between a bone and a set
 unfoldable pub reaches : ℕ → Tally → ℕ → Bones → ℕ
 reaches n w b Y = sum n (λ c. cond (Y c) (w b c) 0)
+
+-- the same in a table, with the block named x: of the block named u, and of bone b
+abbrev pub blockTally : ℕ → List ℕ → List ℕ → ℕ → List ℕ → ℕ → ℕ → ℕ
+blockTally n table names p block u = λ x. cross n (held table) (blockAt n names p block u) (blockAt n names p block x)
+
+abbrev pub boneTally : ℕ → List ℕ → List ℕ → ℕ → List ℕ → ℕ → ℕ → ℕ
+boneTally n table names p block b = λ x. reaches n (held table) b (blockAt n names p block x)
+
+-- a number for every block, nought for the block u itself
+unfoldable pub butFor : ℕ → (ℕ → ℕ) → ℕ → ℕ
+butFor u f x = cond (eqb x u) 0 (f x)
 
 -- a run of 128 sums, to each of which as much as `most` can be added
 pub record Room (sums : List ℕ) (most : ℕ) : Type 0 where

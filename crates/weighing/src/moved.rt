@@ -5,12 +5,12 @@ ghost use Prim.Native.Nat.{ℕ, _+_, _*_, _<_, _≤_};
 ghost use lib.Dec.{T};
 ghost use Rattle.meaning.specs.Heap.{pile};
 ghost use Rattle.weighing.specs.Side.{heapOf, sideOf};
-ghost use Rattle.weighing.specs.Scan.{marked, untaken, bitOf, byteOf};
+ghost use Rattle.weighing.specs.Scan.{BoneNames, marked, untaken, bitOf, byteOf};
 
 // 1 where bone b is in the pile and its block is free, else 0.
 fn bit(names: &[u8; 128], block: &[u8; 128], free: &[u8; 128], n: usize, p: usize, b: usize) -> u8
     requires { ⌜ n ≤ 128 ⌝ }
-    requires { ⌜ ((c : ℕ) → T (pile n (heapOf (now names)) p c) → heapOf (now block) c < n) ⌝ }
+    requires { ⌜ BoneNames n (now names) p (now block) ⌝ }
     ensures { λ r. ⌜ (r ≡ bitOf (pile n (heapOf (now (names .entry))) p) (heapOf (now (block .entry))) (marked (now (free .entry))) b) × (r ≤ 1) ⌝ }
 {
     if b < n {
@@ -34,7 +34,7 @@ fn side_byte(
     j: usize,
 ) -> u8
     requires { ⌜ (n ≤ 128) × (j < 16) ⌝ }
-    requires { ⌜ ((c : ℕ) → T (pile n (heapOf (now names)) p c) → heapOf (now block) c < n) ⌝ }
+    requires { ⌜ BoneNames n (now names) p (now block) ⌝ }
     ensures { λ r. ⌜ r ≡ byteOf (λ i. bitOf (pile n (heapOf (now (names .entry))) p) (heapOf (now (block .entry))) (marked (now (free .entry))) (j * 8 + i)) ⌝ }
 {
     let b = j * 8;
@@ -58,7 +58,7 @@ pub(crate) fn side_of(
     p: usize,
 ) -> [u8; 16]
     requires { ⌜ n ≤ 128 ⌝ }
-    requires { ⌜ ((c : ℕ) → T (pile n (heapOf (now names)) p c) → heapOf (now block) c < n) ⌝ }
+    requires { ⌜ BoneNames n (now names) p (now block) ⌝ }
     ensures { λ r. ⌜ ((b : ℕ) → sideOf r b ≡ untaken (pile n (heapOf (now (names .entry))) p) (heapOf (now (block .entry))) (marked (now (free .entry))) b) ⌝ }
 {
     let mut side = [0u8; 16];

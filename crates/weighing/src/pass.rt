@@ -3,6 +3,7 @@
 use crate::scan::bone;
 use crate::scan::free_all;
 use crate::scan::join;
+use crate::scan::one_block;
 use crate::scan::pick;
 use crate::scan::rename;
 use crate::scan::take;
@@ -71,9 +72,10 @@ pub(crate) fn pass(
         out = got.out;
     }
     rename(names, &next, n, p, block);
+    let one = one_block(names, block, n, p);
     Outcome {
         light: false,
-        one: false,
+        one: one,
         weight: 0,
     }
 }

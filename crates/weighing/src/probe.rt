@@ -16,7 +16,7 @@ ghost use Rattle.meaning.specs.Heap.{pile};
 ghost use Rattle.weighing.specs.Table.{held};
 ghost use Rattle.weighing.specs.Side.{heapOf};
 ghost use Rattle.weighing.specs.Scan.{marked};
-ghost use Rattle.weighing.specs.Grow.{beside};
+ghost use Rattle.weighing.specs.Grow.{beside, Probed};
 ghost use Rattle.weighing.specs.Flow.{
   leaves,
   waysOf,
@@ -26,7 +26,6 @@ ghost use Rattle.weighing.specs.Flow.{
   Clear,
   Flowed,
   Ready,
-  Told,
 };
 
 // 1 where a bone was reached and is free, else 0.
@@ -205,7 +204,7 @@ fn probe_listed(
     requires { ⌜ (n ≤ 128) × (length (now free) ≡ 128) × (length (now res) ≡ 448) × T (marked (now free) t) ⌝ }
     requires { ⌜ ((x : ℕ) → T (marked (now free) x) → T (beside (pile n (heapOf (now names)) p) p x)) ⌝ }
     requires { ⌜ Ready n (held (now table)) k (pile n (heapOf (now names)) p) (now ways) m ⌝ }
-    ensures { λ r. ⌜ Told n (held (now (table .entry))) k (pile n (heapOf (now (names .entry))) p) p t (now (free .entry)) (now (free .exit)) (r .verdict) (r .weight) ⌝ }
+    ensures { λ r. ⌜ Probed n (held (now (table .entry))) k (pile n (heapOf (now (names .entry))) p) p t (now (free .entry)) (now (free .exit)) (r .verdict) (r .weight) ⌝ }
     ensures { λ r. ⌜ length (now (res .exit)) ≡ 448 ⌝ }
 {
     if 448 < m {
@@ -249,7 +248,7 @@ pub(crate) fn probe(
     requires { ⌜ (n ≤ 128) × (length (now free) ≡ 128) × (length (now res) ≡ 448) × T (marked (now free) t) ⌝ }
     requires { ⌜ ((x : ℕ) → T (marked (now free) x) → T (beside (pile n (heapOf (now names)) p) p x)) ⌝ }
     requires { ⌜ Ready n (held (now table)) k (pile n (heapOf (now names)) p) (now ways) m ⌝ }
-    ensures { λ r. ⌜ Told n (held (now (table .entry))) k (pile n (heapOf (now (names .entry))) p) p t (now (free .entry)) (now (free .exit)) (r .verdict) (r .weight) ⌝ }
+    ensures { λ r. ⌜ Probed n (held (now (table .entry))) k (pile n (heapOf (now (names .entry))) p) p t (now (free .entry)) (now (free .exit)) (r .verdict) (r .weight) ⌝ }
     ensures { λ r. ⌜ length (now (res .exit)) ≡ 448 ⌝ }
     ensures { λ r. ⌜ Ready n (held (now (table .entry))) k (pile n (heapOf (now (names .entry))) p) (now (ways .exit)) (r .pairs) ⌝ }
 {

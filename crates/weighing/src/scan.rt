@@ -1,7 +1,7 @@
 // The parts of a scan: the tallies between a block that is taken and every block of the pile.
 use crate::table::tally_at;
 ghost use mathlib.Core.Path.{_≡_};
-ghost use mathlib.Core.Bool.{cond, _&&_};
+ghost use mathlib.Core.Bool.{true, cond, not, _&&_};
 ghost use Prim.Native.Nat.{ℕ, _+_, _*_, _<_, _≤_, _^_};
 ghost use lib.Dec.{T, eqb, leb};
 ghost use lib.ListN.{length, getD, set};
@@ -9,10 +9,12 @@ ghost use Rattle.meaning.specs.Heap.{pile};
 ghost use Rattle.weighing.specs.Table.{held};
 ghost use Rattle.weighing.specs.Side.{heapOf};
 ghost use Rattle.weighing.specs.Scan.{
-  inBlock,
-  cross,
-  reaches,
+  blockAt,
+  BoneNames,
+  blockTally,
+  boneTally,
   marked,
+  butFor,
   Room,
   Grown,
   Filled,
@@ -20,7 +22,7 @@ ghost use Rattle.weighing.specs.Scan.{
   Looked,
 };
 
-fn wide(x: u32) -> u64
+pub(crate) fn wide(x: u32) -> u64
     ensures { λ r. ⌜ (r ≡ x) × (r < 2 ^ 32) ⌝ }
 {
     x as u64
@@ -40,13 +42,14 @@ fn tally(table: &[u32; 16384], i: usize, j: usize) -> u64
     wide(tally_at(table, i, j))
 }
 
-// The tally of bones b and c goes to the attachment of c's block, where c is in the pile.
+// The tally of bones b and c goes to the attachment of c's block, where c is in the pile and its block is not u, that of b.
 fn add_pair(
     table: &[u32; 16384],
     names: &[u8; 128],
     block: &[u8; 128],
     n: usize,
     p: usize,
+    u: usize,
     b: usize,
     c: usize,
     attach: &mut [u64; 128],
@@ -54,31 +57,34 @@ fn add_pair(
     requires { ⌜ (n ≤ 128) × (b < n) × (c < n) ⌝ }
     requires { ⌜ (T (pile n (heapOf (now names)) p c) → heapOf (now block) c < n) ⌝ }
     requires { ⌜ Room (now attach) (2 ^ 32) ⌝ }
-    ensures { λ r. ⌜ Grown (now (attach .entry)) (now (attach .exit)) (λ x. cond (inBlock (pile n (heapOf (now (names .entry))) p) (heapOf (now (block .entry))) x c) (held (now (table .entry)) b c) 0) (2 ^ 32) ⌝ }
+    ensures { λ r. ⌜ Grown (now (attach .entry)) (now (attach .exit)) (butFor u (λ x. cond (blockAt n (now (names .entry)) p (now (block .entry)) x c) (held (now (table .entry)) b c) 0)) (2 ^ 32) ⌝ }
 {
     if bone(names[c]) == p {
         let x = bone(block[c]);
-        attach[x] = attach[x] + tally(table, b, c);
+        if x != u {
+            attach[x] = attach[x] + tally(table, b, c);
+        }
     }
 }
 
-// The tallies of bone b with every bone of the pile go to the attachments of their blocks.
+// The tallies of bone b of the block u with every bone of the pile go to the attachments of their blocks, but for u itself.
 fn add_bone(
     table: &[u32; 16384],
     names: &[u8; 128],
     block: &[u8; 128],
     n: usize,
     p: usize,
+    u: usize,
     b: usize,
     attach: &mut [u64; 128],
 )
     requires { ⌜ (n ≤ 128) × (b < n) ⌝ }
-    requires { ⌜ ((c : ℕ) → T (pile n (heapOf (now names)) p c) → heapOf (now block) c < n) ⌝ }
+    requires { ⌜ BoneNames n (now names) p (now block) ⌝ }
     requires { ⌜ Room (now attach) (2 ^ 39) ⌝ }
-    ensures { λ r. ⌜ Grown (now (attach .entry)) (now (attach .exit)) (λ x. reaches n (held (now (table .entry))) b (inBlock (pile n (heapOf (now (names .entry))) p) (heapOf (now (block .entry))) x)) (2 ^ 39) ⌝ }
+    ensures { λ r. ⌜ Grown (now (attach .entry)) (now (attach .exit)) (butFor u (boneTally n (now (table .entry)) (now (names .entry)) p (now (block .entry)) b)) (2 ^ 39) ⌝ }
 {
     for c in 0..n {
-        add_pair(table, names, block, n, p, b, c, attach);
+        add_pair(table, names, block, n, p, u, b, c, attach);
     }
 }
 
@@ -94,18 +100,18 @@ fn add_member(
     attach: &mut [u64; 128],
 )
     requires { ⌜ (n ≤ 128) × (b < n) ⌝ }
-    requires { ⌜ ((c : ℕ) → T (pile n (heapOf (now names)) p c) → heapOf (now block) c < n) ⌝ }
+    requires { ⌜ BoneNames n (now names) p (now block) ⌝ }
     requires { ⌜ Room (now attach) (2 ^ 39) ⌝ }
-    ensures { λ r. ⌜ Grown (now (attach .entry)) (now (attach .exit)) (λ x. cond (inBlock (pile n (heapOf (now (names .entry))) p) (heapOf (now (block .entry))) u b) (reaches n (held (now (table .entry))) b (inBlock (pile n (heapOf (now (names .entry))) p) (heapOf (now (block .entry))) x)) 0) (2 ^ 39) ⌝ }
+    ensures { λ r. ⌜ Grown (now (attach .entry)) (now (attach .exit)) (λ x. cond (blockAt n (now (names .entry)) p (now (block .entry)) u b) (butFor u (boneTally n (now (table .entry)) (now (names .entry)) p (now (block .entry)) b) x) 0) (2 ^ 39) ⌝ }
 {
     if bone(names[b]) == p {
         if bone(block[b]) == u {
-            add_bone(table, names, block, n, p, b, attach);
+            add_bone(table, names, block, n, p, u, b, attach);
         }
     }
 }
 
-// The block u is taken: its tally with every block goes to that block's attachment.
+// The block u is taken: its tally with every other block goes to that block's attachment.
 fn add_block(
     table: &[u32; 16384],
     names: &[u8; 128],
@@ -116,9 +122,9 @@ fn add_block(
     attach: &mut [u64; 128],
 )
     requires { ⌜ n ≤ 128 ⌝ }
-    requires { ⌜ ((c : ℕ) → T (pile n (heapOf (now names)) p c) → heapOf (now block) c < n) ⌝ }
+    requires { ⌜ BoneNames n (now names) p (now block) ⌝ }
     requires { ⌜ Room (now attach) (2 ^ 46) ⌝ }
-    ensures { λ r. ⌜ Grown (now (attach .entry)) (now (attach .exit)) (λ x. cross n (held (now (table .entry))) (inBlock (pile n (heapOf (now (names .entry))) p) (heapOf (now (block .entry))) u) (inBlock (pile n (heapOf (now (names .entry))) p) (heapOf (now (block .entry))) x)) (2 ^ 46) ⌝ }
+    ensures { λ r. ⌜ Grown (now (attach .entry)) (now (attach .exit)) (butFor u (blockTally n (now (table .entry)) (now (names .entry)) p (now (block .entry)) u)) (2 ^ 46) ⌝ }
 {
     for b in 0..n {
         add_member(table, names, block, n, p, u, b, attach);
@@ -226,12 +232,39 @@ fn next_name(
 // The blocks are renamed.
 pub(crate) fn rename(names: &[u8; 128], next: &[u8; 128], n: usize, p: usize, block: &mut [u8; 128])
     requires { ⌜ (n ≤ 128) × (length (now block) ≡ 128) ⌝ }
-    requires { ⌜ ((b : ℕ) → T (pile n (heapOf (now names)) p b) → heapOf (now block) b < n) ⌝ }
+    requires { ⌜ BoneNames n (now names) p (now block) ⌝ }
     ensures { λ r. ⌜ Filled (now (block .entry)) (now (block .exit)) (λ b. cond (pile n (heapOf (now (names .entry))) p b) (heapOf (now (next .entry)) (heapOf (now (block .entry)) b)) (heapOf (now (block .entry)) b)) n ⌝ }
 {
     for b in 0..n {
         block[b] = next_name(names, block, next, n, p, b);
     }
+}
+
+// Whether bone b is in the pile and in another block than `first`.
+fn strays(names: &[u8; 128], block: &[u8; 128], n: usize, p: usize, first: u8, b: usize) -> bool
+    requires { ⌜ (n ≤ 128) × (b < n) ⌝ }
+    ensures { λ r. ⌜ r ≡ (pile n (heapOf (now (names .entry))) p b && not (eqb (heapOf (now (block .entry)) b) first)) ⌝ }
+{
+    if bone(names[b]) == p {
+        if block[b] != first {
+            return true;
+        }
+    }
+    false
+}
+
+// Whether the pile is one block.
+pub(crate) fn one_block(names: &[u8; 128], block: &[u8; 128], n: usize, p: usize) -> bool
+    requires { ⌜ (n ≤ 128) × (p < n) ⌝ }
+    ensures { λ r. ⌜ (r ≡ true → (b : ℕ) → T (pile n (heapOf (now (names .entry))) p b) → heapOf (now (block .entry)) b ≡ heapOf (now (block .entry)) p) ⌝ }
+{
+    let first = block[p];
+    for b in 0..n {
+        if strays(names, block, n, p, first, b) {
+            return false;
+        }
+    }
+    true
 }
 
 // Every bone is a block of its own.
@@ -256,10 +289,10 @@ pub(crate) fn take(
     attach: &mut [u64; 128],
 )
     requires { ⌜ (n ≤ 128) × (u < 128) ⌝ }
-    requires { ⌜ ((c : ℕ) → T (pile n (heapOf (now names)) p c) → heapOf (now block) c < n) ⌝ }
+    requires { ⌜ BoneNames n (now names) p (now block) ⌝ }
     requires { ⌜ Room (now attach) (2 ^ 46) ⌝ }
     ensures { λ r. ⌜ now (free .exit) ≡ set (now (free .entry)) u 0 ⌝ }
-    ensures { λ r. ⌜ Grown (now (attach .entry)) (now (attach .exit)) (λ x. cross n (held (now (table .entry))) (inBlock (pile n (heapOf (now (names .entry))) p) (heapOf (now (block .entry))) u) (inBlock (pile n (heapOf (now (names .entry))) p) (heapOf (now (block .entry))) x)) (2 ^ 46) ⌝ }
+    ensures { λ r. ⌜ Grown (now (attach .entry)) (now (attach .exit)) (butFor u (blockTally n (now (table .entry)) (now (names .entry)) p (now (block .entry)) u)) (2 ^ 46) ⌝ }
 {
     free[u] = 0;
     add_block(table, names, block, n, p, u, attach);

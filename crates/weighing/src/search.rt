@@ -1,8 +1,8 @@
 // The search for a light split among the piles of a heap.
+use crate::grow::grow;
 use crate::moved::side_of;
 use crate::pass::pass;
 use crate::scan::bone;
-use crate::scan::single;
 ghost use mathlib.Core.Path.{_≡_};
 ghost use Prim.Native.Nat.{min};
 ghost use Rattle.weighing.specs.Table.{held};
@@ -26,7 +26,7 @@ fn at_most(n: usize) -> usize
 }
 
 // The first light split of a pile named `from` or more, in the heap that gives each of the n bones the name of its pile; or that all
-// these piles are firm. The blocks of a pile start from single bones, and each pass that finds nothing leaves fewer of them.
+// these piles are firm. Each pile is grown first; what that leaves goes to the passes, each of which leaves fewer blocks.
 pub fn search(table: &[u32; 16384], names: &[u8; 128], n: usize, k: u64, from: usize) -> Split
     ensures { λ r. ⌜ Searched (min n 128) (held (now (table .entry))) k (heapOf (now (names .entry))) from r (r .light) ⌝ }
 {
@@ -42,9 +42,8 @@ pub fn search(table: &[u32; 16384], names: &[u8; 128], n: usize, k: u64, from: u
     let mut p = from;
     'piles: while p < bones {
         if bone(names[p]) == p {
-            single(&mut block);
+            let mut got = grow(table, names, bones, k, p, &mut block, &mut free);
             loop {
-                let got = pass(table, names, bones, k, p, &mut block, &mut free);
                 let light = got.light;
                 let one = got.one;
                 if light {
@@ -60,6 +59,7 @@ pub fn search(table: &[u32; 16384], names: &[u8; 128], n: usize, k: u64, from: u
                 if one {
                     break;
                 }
+                got = pass(table, names, bones, k, p, &mut block, &mut free);
             }
         }
         p += 1;

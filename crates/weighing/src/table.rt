@@ -27,7 +27,7 @@ pub(crate) fn tally_at(table: &[u32; 16384], i: usize, j: usize) -> u32
 }
 
 // One link added; a sum past 32 bits loses its carry.
-fn add_link(table: &mut [u32; 16384], a: u8, b: u8, tally: u16)
+pub(crate) fn add_link(table: &mut [u32; 16384], a: u8, b: u8, tally: u16)
     requires { ⌜ (a < 128) × (b < 128) ⌝ }
     ensures { λ _. ⌜ now (table .exit) ≡ added (now (table .entry)) (record { a = a; b = b; tally = tally }) ⌝ }
 {

@@ -1,22 +1,19 @@
 -- `weighing::moved::bit` meets its contract: the bit is 1 after three tests, and 0 where one of them fails.
 -- Assumes nothing.
-use Prim.Native.Nat.{ℕ, _<_}
-use mathlib.Core.Path.{_≡_, sym, _∙_, ap, subst}
+use Prim.Native.Nat.{ℕ}
+use mathlib.Core.Path.{sym, _∙_, ap, subst}
 use native.Mathlib.Omega.{arith}
 use borrow.Author.Needs.{needs}
-use lib.Dec.{T, eqb, not-T, eqb→eq}
+use lib.Dec.{T, eqb, eqb→eq}
 use lib.ListN.{getD}
 use Rattle.meaning.specs.Heap.{pile}
 use Rattle.meaning.proofs.Tests.{eq→eqb}
 use Rattle.meaning.proofs.Heaps.{pile-intro, pile-bone, pile-name}
 use Rattle.weighing.specs.Side.{heapOf}
-use Rattle.weighing.specs.Scan.{marked, untaken, bitOf}
+use Rattle.weighing.specs.Scan.{marked}
 use Rattle.weighing.proofs.Bits.{bit-one, bit-nought}
 use Rattle.weighing.proofs.moved.bit.Statement.{statement}
 use Rattle.weighing.proofs.moved.bit.Tie as tie
-use Rattle.weighing.proofs.moved.bit.Reads as reads
-use Rattle.weighing.proofs.moved.bit.Lts as lts
-use Rattle.weighing.proofs.scan.bone.Reads as bone-reads
 
 -- the bone is in the pile, so its block's name is below n
 in-the-pile : (c : tie.After-bone2) → let a = c .before .before .before .before .before .before .args in T (pile (a .n) (heapOf (a .names .now)) (a .p) (a .b))
@@ -25,28 +22,22 @@ in-the-pile c =
     let a = c .before .before .before .before .before .before .args in
     pile-intro (a .n) (heapOf (a .names .now)) (a .p) (a .b) (c .before .before .before .before .before .if1 .taken) (sym (c .before .before .before .bone .ensures .0) ∙ c .before .before .if2 .taken)
 
--- src/moved.rt:17:17
 element-copy-out-bone : tie.Need-element-copy-out-bone
 element-copy-out-bone c = search needs
 
--- src/moved.rt:17:12
 bone-requires : tie.Need-bone-requires
 bone-requires c κs = search needs
 
--- src/moved.rt:18:26
 element-copy-out-bone-2 : tie.Need-element-copy-out-bone-2
 element-copy-out-bone-2 c = search needs
 
--- src/moved.rt:18:17
 bone-requires-2 : tie.Need-bone-requires-2
 bone-requires-2 c κs = search needs
 
--- src/moved.rt:19:16
 element-copy-out-if3 : tie.Need-element-copy-out-if3
 unfolding heapOf
 element-copy-out-if3 c = omega (arith, c .before .before .before .before .before .before .pre .1 (c .before .before .before .before .before .before .args .b) (in-the-pile c), c .bone2 .ensures .0, c .before .before .before .before .before .before .pre .0)
 
--- src/moved.rt:20:17
 returns : tie.Need-returns
 unfolding heapOf marked
 returns c =
@@ -56,7 +47,6 @@ returns c =
       omega arith,
     )
 
--- src/moved.rt:11:1
 returns-2 : tie.Need-returns-2
 unfolding heapOf marked
 returns-2 c =
@@ -66,7 +56,6 @@ returns-2 c =
       omega arith,
     )
 
--- src/moved.rt:11:1
 returns-3 : tie.Need-returns-3
 unfolding heapOf
 returns-3 c =
@@ -76,7 +65,6 @@ returns-3 c =
       omega arith,
     )
 
--- src/moved.rt:11:1
 returns-4 : tie.Need-returns-4
 returns-4 c =
     let a = c .before .args in (

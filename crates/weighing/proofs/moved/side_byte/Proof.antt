@@ -1,7 +1,7 @@
 -- `weighing::moved::side_byte` meets its contract: eight bits, put together.
 -- Assumes nothing.
-use Prim.Native.Nat.{ℕ, _+_, _*_}
-use mathlib.Core.Path.{_≡_, sym, _∙_, ap}
+use Prim.Native.Nat.{_*_}
+use mathlib.Core.Path.{ap}
 use native.Mathlib.Nat.{add-zero}
 use native.Mathlib.Omega.{arith}
 use borrow.Author.Needs.{needs}
@@ -10,131 +10,97 @@ use Rattle.weighing.specs.Side.{heapOf}
 use Rattle.weighing.specs.Scan.{byteOf, bitOf, marked}
 use Rattle.weighing.proofs.moved.side_byte.Statement.{statement}
 use Rattle.weighing.proofs.moved.side_byte.Tie as tie
-use Rattle.weighing.proofs.moved.side_byte.Reads as reads
-use Rattle.weighing.proofs.moved.side_byte.Lts as lts
-use Rattle.weighing.proofs.moved.bit.Reads as bit-reads
 
--- src/moved.rt:33:13
 mul-b : tie.Need-mul-b
 mul-b c = search needs
 
--- src/moved.rt:34:15
 bit-requires : tie.Need-bit-requires
 bit-requires c κs = search needs
 
--- src/moved.rt:35:45
 add-bit : tie.Need-add-bit
 add-bit c = search needs
 
--- src/moved.rt:35:15
 bit-requires-2 : tie.Need-bit-requires-2
 bit-requires-2 c κs = search needs
 
--- src/moved.rt:35:11
 mul-low : tie.Need-mul-low
 mul-low c = search needs
 
--- src/moved.rt:34:15
 add-low : tie.Need-add-low
 add-low c = search needs
 
--- src/moved.rt:36:45
 add-bit-2 : tie.Need-add-bit-2
 add-bit-2 c = search needs
 
--- src/moved.rt:36:15
 bit-requires-3 : tie.Need-bit-requires-3
 bit-requires-3 c κs = search needs
 
--- src/moved.rt:36:11
 mul-low-2 : tie.Need-mul-low-2
 mul-low-2 c = search needs
 
--- src/moved.rt:34:15
 add-low-2 : tie.Need-add-low-2
 add-low-2 c = search needs
 
--- src/moved.rt:37:45
 add-bit-3 : tie.Need-add-bit-3
 add-bit-3 c = search needs
 
--- src/moved.rt:37:15
 bit-requires-4 : tie.Need-bit-requires-4
 bit-requires-4 c κs = search needs
 
--- src/moved.rt:37:11
 mul-low-3 : tie.Need-mul-low-3
 mul-low-3 c = search needs
 
--- src/moved.rt:34:15
 add-low-3 : tie.Need-add-low-3
 add-low-3 c = search needs
 
--- src/moved.rt:38:46
 add-bit-4 : tie.Need-add-bit-4
 add-bit-4 c = search needs
 
--- src/moved.rt:38:16
 bit-requires-5 : tie.Need-bit-requires-5
 bit-requires-5 c κs = search needs
 
--- src/moved.rt:38:11
 mul-result : tie.Need-mul-result
 mul-result c = search needs
 
--- src/moved.rt:38:5
 add-result : tie.Need-add-result
 add-result c = search needs
 
--- src/moved.rt:39:46
 add-bit-5 : tie.Need-add-bit-5
 add-bit-5 c = search needs
 
--- src/moved.rt:39:16
 bit-requires-6 : tie.Need-bit-requires-6
 bit-requires-6 c κs = search needs
 
--- src/moved.rt:39:11
 mul-result-2 : tie.Need-mul-result-2
 mul-result-2 c = search needs
 
--- src/moved.rt:38:5
 add-result-2 : tie.Need-add-result-2
 add-result-2 c = search needs
 
--- src/moved.rt:40:46
 add-bit-6 : tie.Need-add-bit-6
 add-bit-6 c = search needs
 
--- src/moved.rt:40:16
 bit-requires-7 : tie.Need-bit-requires-7
 bit-requires-7 c κs = search needs
 
--- src/moved.rt:40:11
 mul-result-3 : tie.Need-mul-result-3
 mul-result-3 c = search needs
 
--- src/moved.rt:38:5
 add-result-3 : tie.Need-add-result-3
 add-result-3 c = search needs
 
--- src/moved.rt:41:47
 add-bit-7 : tie.Need-add-bit-7
 add-bit-7 c = search needs
 
--- src/moved.rt:41:17
 bit-requires-8 : tie.Need-bit-requires-8
 bit-requires-8 c κs = search needs
 
--- src/moved.rt:41:11
 mul-result-4 : tie.Need-mul-result-4
 mul-result-4 c = search needs
 
--- src/moved.rt:38:5
 add-result-4 : tie.Need-add-result-4
 add-result-4 c = search needs
 
--- src/moved.rt:28:1
 returns : tie.Need-returns
 unfolding byteOf
 returns c =

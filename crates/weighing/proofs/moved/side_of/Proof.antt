@@ -1,10 +1,10 @@
 -- `weighing::moved::side_of` meets its contract: after j turns the first j bytes stand.
 -- Assumes nothing.
 use Prim.Native.Nat.{ℕ, zero-le, _+_, _*_, _-_, _≤_, _<_}
-use mathlib.Core.Path.{_≡_, refl, _∙_, subst}
+use mathlib.Core.Path.{_≡_, refl, _∙_}
 use native.Mathlib.Nat.{not-suc-le-zero}
 use native.Mathlib.Omega.{arith}
-use lib.ListN.{length, getD, set, length-set}
+use lib.ListN.{length, getD, length-set}
 use Rattle.meaning.specs.Heap.{pile}
 use Rattle.meaning.proofs.Heaps.{pile-bone}
 use Rattle.weighing.specs.Side.{heapOf}
@@ -13,9 +13,6 @@ use Rattle.weighing.proofs.Filling.{stored-next}
 use Rattle.weighing.proofs.Bits.{side-bits}
 use Rattle.weighing.proofs.moved.side_of.Statement.{statement}
 use Rattle.weighing.proofs.moved.side_of.Tie as tie
-use Rattle.weighing.proofs.moved.side_of.Reads as reads
-use Rattle.weighing.proofs.moved.side_of.Lts as lts
-use Rattle.weighing.proofs.moved.side_byte.Reads as side-byte-reads
 
 abbrev Inv-loop : tie.InvT-loop
 Inv-loop names block free n p side₀ j₀ side j =
@@ -24,33 +21,26 @@ Inv-loop names block free n p side₀ j₀ side j =
 abbrev μ-loop : tie.MeasureT-loop
 μ-loop names block free n p side₀ j₀ side j = 16 - j
 
--- src/moved.rt:51:5
 loop-holds : tie.Need-loop-holds Inv-loop μ-loop
 loop-holds c = (zero-le, refl, λ y h. absurd (not-suc-le-zero h))
 
--- src/moved.rt:52:19
 side-byte-requires : tie.Need-side-byte-requires Inv-loop μ-loop
 side-byte-requires c κs = ((c .before .before .pre .0, c .loop-test .taken), c .before .before .pre .1)
 
--- src/moved.rt:52:9
 array-write-side : tie.Need-array-write-side Inv-loop μ-loop
 array-write-side c = omega arith
 
--- src/moved.rt:51:9
 add-j : tie.Need-add-j Inv-loop μ-loop
 add-j c = omega arith
 
--- src/moved.rt:51:5
 loop-less : tie.Need-loop-less Inv-loop μ-loop
 loop-less c = omega arith
 
--- src/moved.rt:51:5
 loop-again : tie.Need-loop-again Inv-loop μ-loop
 loop-again c =
     let l = c .before .before .loop in
     (omega arith, length-set (l .side) (l .j) (c .side-byte .result) ∙ l .inv .1, stored-next (l .side) _ (l .j) (c .side-byte .result) (omega (arith, l .inv .1)) (l .inv .2) (c .side-byte .ensures))
 
--- src/moved.rt:45:1
 returns : tie.Need-returns Inv-loop μ-loop
 returns c =
     let a = c .before .before .args in

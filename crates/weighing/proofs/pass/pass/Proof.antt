@@ -1,33 +1,23 @@
 -- `weighing::pass::pass` meets its contract. The loop's invariant is `Pass`, what holds whenever the next block has been picked.
 -- Assumes nothing.
-use Prim.Native.Nat.{ℕ, _+_, _≤_, _<_}
-use mathlib.Core.Path.{_≡_, refl, sym, _∙_, ap, subst, subst₂}
-use mathlib.Core.Bool.{Bool, true, false, cond, not}
+use Prim.Native.Nat.{ℕ, _<_}
+use mathlib.Core.Path.{_≡_, sym, _∙_, ap, subst, subst₂}
+use mathlib.Core.Bool.{true, false, cond}
 use mathlib.Core.List.{List}
 use native.Mathlib.Omega.{arith}
-use borrow.Author.Needs.{needs}
-use lib.Dec.{T, leb}
-use lib.ListN.{length, getD, set, replicate}
+use lib.Dec.{leb}
+use lib.ListN.{getD, set, replicate}
 use Rattle.meaning.specs.Count.{Bones, count}
-use Rattle.meaning.specs.Tally.{Tally}
-use Rattle.meaning.specs.Heap.{Heap, pile, stands}
+use Rattle.meaning.specs.Heap.{pile, stands}
 use Rattle.meaning.proofs.Heaps.{pile-bone}
 use Rattle.weighing.specs.Table.{held}
 use Rattle.weighing.specs.Side.{heapOf}
-use Rattle.weighing.specs.Scan.{inBlock, cross, marked, Grown, Picked, Passed}
+use Rattle.weighing.specs.Scan.{inBlock, cross, marked, Grown, Picked, Passed, butFor}
 use Rattle.weighing.proofs.TableHeld.{held-symmetric}
 use Rattle.weighing.proofs.Scanning.{State}
 use Rattle.weighing.proofs.Passing.{Given, Pass, name-small, state-room, state-most, start-room, start-state, pass-start, passed-alone, passed-light, next-state, next-count, pass-next, passed-joined}
 use Rattle.weighing.proofs.pass.pass.Statement.{statement}
 use Rattle.weighing.proofs.pass.pass.Tie as tie
-use Rattle.weighing.proofs.pass.pass.Reads as reads
-use Rattle.weighing.proofs.pass.pass.Lts as lts
-use Rattle.weighing.proofs.scan.bone.Reads as bone-reads
-use Rattle.weighing.proofs.scan.free_all.Reads as free-all-reads
-use Rattle.weighing.proofs.scan.join.Reads as join-reads
-use Rattle.weighing.proofs.scan.pick.Reads as pick-reads
-use Rattle.weighing.proofs.scan.rename.Reads as rename-reads
-use Rattle.weighing.proofs.scan.take.Reads as take-reads
 
 abbrev Inv-loop : tie.InvT-loop
 Inv-loop table names n k p block free₀ attach₀ next₀ first last₀ u₀ out₀ free attach next last u out =
@@ -100,11 +90,11 @@ first-of t = heapOf (t .before .before .before .before .before .before .before .
 first-free : (t : tie.After-take Inv-loop μ-loop) → free-of t ≡ set (marks t) (first-of t) 0
 first-free t = t .take .ensures .0 ∙ ap (λ (x : ℕ). set (marks t) x 0) (first-name (t .before .before .before .before))
 
-first-grown : (t : tie.After-take Inv-loop μ-loop) → let s = t .before .before .before .before .before .before .before .before .before in Grown (replicate 128 0) (attach-of t) (λ x. cross (s .args .n) (held (s .args .table .now)) (inBlock (S-of s) (heapOf (s .args .block .now)) (first-of t)) (inBlock (S-of s) (heapOf (s .args .block .now)) x)) 70368744177664
+first-grown : (t : tie.After-take Inv-loop μ-loop) → let s = t .before .before .before .before .before .before .before .before .before in Grown (replicate 128 0) (attach-of t) (butFor (first-of t) (λ x. cross (s .args .n) (held (s .args .table .now)) (inBlock (S-of s) (heapOf (s .args .block .now)) (first-of t)) (inBlock (S-of s) (heapOf (s .args .block .now)) x))) 70368744177664
 first-grown t =
     let s = t .before .before .before .before .before .before .before .before .before in
     subst
-    (λ (u : ℕ). Grown (replicate 128 0) (attach-of t) (λ x. cross (s .args .n) (held (s .args .table .now)) (inBlock (S-of s) (heapOf (s .args .block .now)) u) (inBlock (S-of s) (heapOf (s .args .block .now)) x)) 70368744177664)
+    (λ (u : ℕ). Grown (replicate 128 0) (attach-of t) (butFor u (λ x. cross (s .args .n) (held (s .args .table .now)) (inBlock (S-of s) (heapOf (s .args .block .now)) u) (inBlock (S-of s) (heapOf (s .args .block .now)) x))) 70368744177664)
     (first-name (t .before .before .before .before)) (t .take .ensures .1)
 
 pick-requires : tie.Need-pick-requires Inv-loop μ-loop
@@ -208,11 +198,16 @@ rename-requires c κs =
     let s = c .before .before .before .before .before .before .before .before .before .before .before .before .before .before .before .before .before in
     ((s .pre .0 .0, s .pre .0 .1), name-small (given s))
 
+one-block-requires : tie.Need-one-block-requires Inv-loop μ-loop
+one-block-requires c κs =
+    let s = c .before .before .before .before .before .before .before .before .before .before .before .before .before .before .before .before .before .before .before in
+    (s .pre .0 .0, given s .below (s .args .p) (given s .standing))
+
 returns-3 : tie.Need-returns-3 Inv-loop μ-loop
 returns-3 c =
-    let s = c .before .before .before .before .before .before .before .before .before .before .before .before .before .before .before .before .before .before in
-    let l = c .before .before .before .before .loop in
-    passed-joined (given s) (l .free) (l .attach) (l .next) _ (l .last) (l .u) (l .out) (l .inv) (c .before .before .before .loop-test .left) (c .rename .ensures)
+    let s = c .before .before .before .before .before .before .before .before .before .before .before .before .before .before .before .before .before .before .before .before in
+    let l = c .before .before .before .before .before .before .loop in
+    passed-joined (given s) (l .free) (l .attach) (l .next) _ (l .last) (l .u) (l .out) _ (l .inv) (c .before .before .before .before .before .loop-test .left) (c .before .before .rename .ensures) (c .one-block .ensures)
 
 pub pass-spec : {M : Type 1} → statement M
 pass-spec =
@@ -235,4 +230,5 @@ pass-spec =
     loop-less
     loop-again
     rename-requires
+    one-block-requires
     returns-3)

@@ -13,12 +13,12 @@ use Rattle.weighing.specs.Side.{heapOf}
 use Rattle.weighing.specs.Grow.{beside}
 use Rattle.weighing.specs.Flow.{waysOf}
 use Rattle.weighing.proofs.TableHeld.{held-symmetric}
-use Rattle.weighing.proofs.ProbeWeighs.{told-light, told-none, told-nothing}
+use Rattle.weighing.proofs.ProbeWeighs.{probed-light, probed-none, probed-nothing}
 use Rattle.weighing.proofs.probe.probe_listed.Statement.{statement}
 use Rattle.weighing.proofs.probe.probe_listed.Tie as tie
 
 returns : tie.Need-returns
-returns c = (told-nothing (c .before .pre .0 .1), c .before .pre .0 .2)
+returns c = (probed-nothing, c .before .pre .0 .2)
 
 -- the bone probed is in the pile
 bone-below : (c : tie.Start) → c .args .t < 128
@@ -38,7 +38,7 @@ returns-2 c =
     let s = c .before .before .before .before .before .before in
     let a = s .args in
     let S = pile (a .n) (heapOf (a .names .now)) (a .p) in (
-      told-light (a .n) (held (a .table .now)) (a .k) S (waysOf (a .ways .now) (a .m)) (s .pre .1 .1 .lists (c .before .before .before .before .before .if1 .left)) (a .t) (a .free .now) _ _ _ (c .before .flow .ensures .0)
+      probed-light (a .n) (held (a .table .now)) (a .k) S (waysOf (a .ways .now) (a .m)) (s .pre .1 .1 .lists (c .before .before .before .before .before .if1 .left)) (a .t) (a .free .now) _ _ _ (c .before .flow .ensures .0)
           (a .p) (pile-bone (a .n) (heapOf (a .names .now)) (a .p)) (s .pre .1 .0) (c .if2 .taken),
       c .before .flow .ensures .1,
     )
@@ -48,8 +48,8 @@ returns-3 c =
     let s = c .before .before .before .before .before .before in
     let a = s .args in
     let S = pile (a .n) (heapOf (a .names .now)) (a .p) in (
-      told-none (a .n) (held (a .table .now)) (a .k) S (waysOf (a .ways .now) (a .m)) (s .pre .1 .1 .lists (c .before .before .before .before .before .if1 .left)) (a .t) (a .free .now) _ _ _ (c .before .flow .ensures .0)
-          (a .p) (pile-bone (a .n) (heapOf (a .names .now)) (a .p)) (s .pre .1 .0) (held-symmetric (a .table .now)) (s .pre .0 .1) (s .pre .0 .3) (c .if2 .left),
+      probed-none (a .n) (held (a .table .now)) (a .k) S (waysOf (a .ways .now) (a .m)) (s .pre .1 .1 .lists (c .before .before .before .before .before .if1 .left)) (a .t) (a .free .now) _ _ _ (c .before .flow .ensures .0)
+          (a .p) (pile-bone (a .n) (heapOf (a .names .now)) (a .p)) (s .pre .1 .0) (held-symmetric (a .table .now)) (s .pre .0 .3) (c .if2 .left),
       c .before .flow .ensures .1,
     )
 

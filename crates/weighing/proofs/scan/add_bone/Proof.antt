@@ -1,35 +1,28 @@
 -- `weighing::scan::add_bone` meets its contract: after c turns each sum has grown by the tallies with the bones below c.
 -- Assumes nothing.
-use Prim.Native.Nat.{ℕ, zero-le, _+_, _*_, _-_, _≤_, _<_}
-use mathlib.Core.Path.{_≡_, refl}
+use Prim.Native.Nat.{zero-le, _*_, _-_, _≤_}
 use mathlib.Core.Bool.{cond}
+use native.Mathlib.Nat.{le-refl}
 use native.Mathlib.Omega.{arith}
-use borrow.Author.Needs.{needs}
-use lib.Dec.{T}
 use Rattle.meaning.specs.Count.{sum}
 use Rattle.meaning.specs.Heap.{pile}
 use Rattle.weighing.specs.Table.{held}
 use Rattle.weighing.specs.Side.{heapOf}
-use Rattle.weighing.specs.Scan.{inBlock, reaches, Grown}
-use Rattle.weighing.proofs.Attach.{grown-start, grown-next, grown-end, room-left}
+use Rattle.weighing.specs.Scan.{inBlock, reaches, butFor, Grown}
+use Rattle.weighing.proofs.Attach.{grown-start, grown-next, grown-end, grown-as, room-left, butFor-sum}
 use Rattle.weighing.proofs.scan.add_bone.Statement.{statement}
 use Rattle.weighing.proofs.scan.add_bone.Tie as tie
-use Rattle.weighing.proofs.scan.add_bone.Reads as reads
-use Rattle.weighing.proofs.scan.add_bone.Lts as lts
-use Rattle.weighing.proofs.scan.add_pair.Reads as add-pair-reads
 
 abbrev Inv-loop : tie.InvT-loop
-Inv-loop table names block n p b attach₀ c₀ attach c =
-    (c ≤ n) × Grown attach₀ attach (λ x. sum c (λ i. cond (inBlock (pile n (heapOf names) p) (heapOf block) x i) (held table b i) 0)) (c * 4294967296)
+Inv-loop table names block n p u b attach₀ c₀ attach c =
+    (c ≤ n) × Grown attach₀ attach (λ x. sum c (λ i. butFor u (λ y. cond (inBlock (pile n (heapOf names) p) (heapOf block) y i) (held table b i) 0) x)) (c * 4294967296)
 
 abbrev μ-loop : tie.MeasureT-loop
-μ-loop table names block n p b attach₀ c₀ attach c = n - c
+μ-loop table names block n p u b attach₀ c₀ attach c = n - c
 
--- src/scan.rt:73:5
 loop-holds : tie.Need-loop-holds Inv-loop μ-loop
 loop-holds c = (zero-le, grown-start _ _ 4294967296 (c .pre .1 .1 .long))
 
--- src/scan.rt:74:9
 add-pair-requires : tie.Need-add-pair-requires Inv-loop μ-loop
 add-pair-requires c κs =
     let s = c .before .before .before in (
@@ -40,22 +33,22 @@ add-pair-requires c κs =
       ),
     )
 
--- src/scan.rt:73:9
 add-c : tie.Need-add-c Inv-loop μ-loop
 add-c c = omega arith
 
--- src/scan.rt:73:5
 loop-less : tie.Need-loop-less Inv-loop μ-loop
 loop-less c = omega arith
 
--- src/scan.rt:73:5
 loop-again : tie.Need-loop-again Inv-loop μ-loop
 loop-again c = (omega arith, grown-next _ _ _ _ _ _ (c .before .before .before .loop .inv .1) (c .add-pair .ensures))
 
--- src/scan.rt:59:1
 returns : tie.Need-returns Inv-loop μ-loop
 unfolding reaches
-returns c = grown-end _ 4294967296 _ _ 549755813888 (c .before .loop .inv .1) (omega arith) (omega arith)
+returns c =
+    grown-as _ 549755813888
+    (grown-end _ 4294967296 _ _ 549755813888 (c .before .loop .inv .1) (omega arith) (omega arith))
+    (λ x. butFor-sum _ _ _ x)
+    (le-refl _)
 
 pub add-bone-spec : {M : Type 1} → statement M
 add-bone-spec =

@@ -5,34 +5,28 @@ use borrow.Author.Needs.{needs}
 use lib.Dec.{not-T}
 use Rattle.meaning.specs.Heap.{pile}
 use Rattle.weighing.specs.Side.{heapOf}
-use Rattle.weighing.specs.Scan.{inBlock}
+use Rattle.weighing.specs.Scan.{inBlock, butFor, boneTally}
 use Rattle.meaning.proofs.Heaps.{pile-intro, pile-name}
 use Rattle.weighing.proofs.Blocks.{block-in, block-of, block-name}
 use Rattle.weighing.proofs.Attach.{grown-if, grown-none}
 use Rattle.weighing.proofs.scan.add_member.Statement.{statement}
 use Rattle.weighing.proofs.scan.add_member.Tie as tie
 
--- src/scan.rt:94:13
 element-copy-out-bone : tie.Need-element-copy-out-bone
 element-copy-out-bone c = search needs
 
--- src/scan.rt:94:8
 bone-requires : tie.Need-bone-requires
 bone-requires c κs = search needs
 
--- src/scan.rt:95:17
 element-copy-out-bone-2 : tie.Need-element-copy-out-bone-2
 element-copy-out-bone-2 c = search needs
 
--- src/scan.rt:95:12
 bone-requires-2 : tie.Need-bone-requires-2
 bone-requires-2 c κs = search needs
 
--- src/scan.rt:96:13
 add-bone-requires : tie.Need-add-bone-requires
 add-bone-requires c κs = search needs
 
--- src/scan.rt:79:1
 returns : tie.Need-returns
 unfolding heapOf
 returns c =
@@ -40,13 +34,12 @@ returns c =
     let a = s .args in
     let S = pile (a .n) (heapOf (a .names .now)) (a .p) in
     let name = heapOf (a .block .now) in
-    grown-if (inBlock S name (a .u) (a .b))
+    grown-if {v = butFor (a .u) (boneTally (a .n) (a .table .now) (a .names .now) (a .p) (a .block .now) (a .b))} (inBlock S name (a .u) (a .b))
     (block-in S name (a .u) (a .b)
     (pile-intro (a .n) (heapOf (a .names .now)) (a .p) (a .b) (s .pre .0 .1) (sym (c .before .before .before .before .before .before .bone .ensures .0) ∙ c .before .before .before .before .before .if1 .taken))
     (sym (c .before .before .before .bone2 .ensures .0) ∙ c .before .before .if2 .taken))
     (c .add-bone .ensures)
 
--- src/scan.rt:79:1
 returns-2 : tie.Need-returns-2
 unfolding heapOf
 returns-2 c =
@@ -57,7 +50,6 @@ returns-2 c =
     grown-none (a .attach .now) _ 549755813888 (λ y. inBlock S name (a .u) (a .b)) (s .pre .1 .1 .long)
     (λ y. not-T (inBlock S name (a .u) (a .b)) (λ t. c .if2 .left (c .before .bone2 .ensures .0 ∙ block-name S name (a .u) (a .b) t)))
 
--- src/scan.rt:79:1
 returns-3 : tie.Need-returns-3
 unfolding heapOf
 returns-3 c =

@@ -1,18 +1,21 @@
--- `weighing::scan::add_pair` meets its contract: one sum grows where c is in the pile, and none where it is not.
+-- `weighing::scan::add_pair` meets its contract: one sum grows where c is in the pile and in another block than u, and none where it is not.
 -- Assumes nothing.
 use Prim.Native.Nat.{ℕ, _<_, _+_}
-use mathlib.Core.Path.{_≡_, sym, _∙_, ap, subst}
-use mathlib.Core.Bool.{cond, not}
+use mathlib.Core.Path.{_≡_, sym, _∙_, subst}
+use mathlib.Core.Bool.{Bool, cond, not, _&&_}
+use mathlib.Core.List.{List}
+use native.Mathlib.Nat.{le-refl}
 use native.Mathlib.Omega.{arith}
 use borrow.Author.Needs.{needs}
-use lib.Dec.{T, not-T, T-not}
-use lib.ListN.{getD, set}
+use lib.Dec.{T, eqb, not-T}
+use lib.ListN.{length, getD, set}
 use Rattle.meaning.specs.Heap.{pile}
-use Rattle.weighing.specs.Side.{heapOf}
-use Rattle.weighing.specs.Scan.{inBlock, Grown}
+use Rattle.meaning.proofs.Tests.{both, left-of, right-of, ne→neqb, neqb→ne}
 use Rattle.meaning.proofs.Heaps.{pile-intro, pile-name}
+use Rattle.weighing.specs.Side.{heapOf}
+use Rattle.weighing.specs.Scan.{inBlock, butFor, Grown}
 use Rattle.weighing.proofs.Blocks.{block-in, block-of, block-name}
-use Rattle.weighing.proofs.Attach.{grown-at, grown-none}
+use Rattle.weighing.proofs.Attach.{grown-at, grown-none, grown-as, butFor-test}
 use Rattle.weighing.proofs.scan.add_pair.Statement.{statement}
 use Rattle.weighing.proofs.scan.add_pair.Tie as tie
 
@@ -44,44 +47,69 @@ unfolding heapOf
 name-below c = omega (arith, c .before .before .before .before .before .pre .1 .0 (in-the-pile c), c .bone2 .ensures .0)
 
 element-copy-out-attach : tie.Need-element-copy-out-attach
-element-copy-out-attach c = name-below c
+element-copy-out-attach c = name-below (c .before)
 
 tally-requires : tie.Need-tally-requires
 tally-requires c κs = search needs
 
 add-attach : tie.Need-add-attach
-add-attach c = omega (arith, c .before .before .before .before .before .before .before .pre .1 .1 .room (c .before .before .bone2 .result))
+add-attach c = omega (arith, c .before .before .before .before .before .before .before .before .pre .1 .1 .room (c .before .before .before .bone2 .result))
 
 mul-attach-2 : tie.Need-mul-attach-2
 mul-attach-2 c = search needs
 
 element-write-attach : tie.Need-element-write-attach
-element-write-attach c = name-below (c .before .before)
+element-write-attach c = name-below (c .before .before .before)
 
 returns : tie.Need-returns
 unfolding heapOf
 returns c =
-    let s = c .before .before .before .before .before .before .before in
-    let S = pile (s .args .n) (heapOf (s .args .names .now)) (s .args .p) in
-    let name = heapOf (s .args .block .now) in
-    let x = c .before .before .bone2 .result in
+    let s = c .before .before .before .before .before .before .before .before in
+    let a = s .args in
+    let S = pile (a .n) (heapOf (a .names .now)) (a .p) in
+    let name = heapOf (a .block .now) in
+    let x = c .before .before .before .bone2 .result in
+    let test : ℕ → Bool = λ y. inBlock S name y (a .c) in
     subst
-    (λ (v : ℕ). Grown (s .args .attach .now) (set (s .args .attach .now) x (getD (s .args .attach .now) x 0 + c .tally .result)) (λ y. cond (inBlock S name y (s .args .c)) v 0) 4294967296)
+    (λ (v : ℕ). Grown (a .attach .now) (set (a .attach .now) x (getD (a .attach .now) x 0 + c .tally .result)) (butFor (a .u) (λ y. cond (test y) v 0)) 4294967296)
     (c .tally .ensures .0)
-    (grown-at (s .args .attach .now) x (c .tally .result) 4294967296 (λ y. inBlock S name y (s .args .c)) (s .pre .1 .1 .long)
-    (name-below (c .before .before))
+    (grown-as (butFor (a .u) (λ y. cond (test y) (c .tally .result) 0)) 4294967296
+    (grown-at (a .attach .now) x (c .tally .result) 4294967296 (λ y. test y && not (eqb y (a .u))) (s .pre .1 .1 .long)
+    (name-below (c .before .before .before))
     (omega (arith, c .tally .ensures .1))
-    (block-in S name x (s .args .c) (in-the-pile (c .before .before)) (sym (c .before .before .bone2 .ensures .0)))
-    (λ y t. c .before .before .bone2 .ensures .0 ∙ block-name S name y (s .args .c) t))
+    (both (test x) (not (eqb x (a .u))) (block-in S name x (a .c) (in-the-pile (c .before .before .before)) (sym (c .before .before .before .bone2 .ensures .0))) (ne→neqb x (a .u) (c .before .before .if2 .taken)))
+    (λ y t. c .before .before .before .bone2 .ensures .0 ∙ block-name S name y (a .c) (left-of (test y) (not (eqb y (a .u))) t)))
+    (butFor-test (a .u) (c .tally .result) test)
+    (le-refl _))
+
+-- no sum grows where the bone is in the block u, or in no block of the pile
+none-grown : (a : List ℕ) (u v : ℕ) (test : ℕ → Bool) → length a ≡ 128 → ((y : ℕ) → T (test y) → y ≡ u) → Grown a a (butFor u (λ y. cond (test y) v 0)) 4294967296
+none-grown a u v test long only =
+    grown-as (butFor u (λ y. cond (test y) v 0)) 4294967296
+    (grown-none a (λ y. v) 4294967296 (λ y. test y && not (eqb y u)) long
+    (λ y. not-T (test y && not (eqb y u)) (λ t. neqb→ne y u (right-of (test y) (not (eqb y u)) t) (only y (left-of (test y) (not (eqb y u)) t)))))
+    (butFor-test u v test)
+    (le-refl _)
 
 returns-2 : tie.Need-returns-2
 unfolding heapOf
 returns-2 c =
+    let s = c .before .before .before .before .before .before in
+    let a = s .args in
+    let S = pile (a .n) (heapOf (a .names .now)) (a .p) in
+    let name = heapOf (a .block .now) in
+    none-grown (a .attach .now) (a .u) _ (λ y. inBlock S name y (a .c)) (s .pre .1 .1 .long)
+    (λ y t. sym (block-name S name y (a .c) t) ∙ sym (c .before .bone2 .ensures .0) ∙ c .if2 .left)
+
+returns-3 : tie.Need-returns-3
+unfolding heapOf
+returns-3 c =
     let s = c .before .before .before in
-    let S = pile (s .args .n) (heapOf (s .args .names .now)) (s .args .p) in
-    let name = heapOf (s .args .block .now) in
-    grown-none (s .args .attach .now) _ 4294967296 (λ y. inBlock S name y (s .args .c)) (s .pre .1 .1 .long)
-    (λ y. not-T (inBlock S name y (s .args .c)) (λ t. c .if1 .left (c .before .bone .ensures .0 ∙ pile-name (s .args .n) (heapOf (s .args .names .now)) (s .args .p) (s .args .c) (block-of S name y (s .args .c) t))))
+    let a = s .args in
+    let S = pile (a .n) (heapOf (a .names .now)) (a .p) in
+    let name = heapOf (a .block .now) in
+    none-grown (a .attach .now) (a .u) _ (λ y. inBlock S name y (a .c)) (s .pre .1 .1 .long)
+    (λ y t. absurd (c .if1 .left (c .before .bone .ensures .0 ∙ pile-name (a .n) (heapOf (a .names .now)) (a .p) (a .c) (block-of S name y (a .c) t))))
 
 pub add-pair-spec : {M : Type 1} → statement M
 add-pair-spec =
@@ -98,4 +126,5 @@ add-pair-spec =
     mul-attach-2
     element-write-attach
     returns
-    returns-2)
+    returns-2
+    returns-3)

@@ -1,6 +1,6 @@
 -- `weighing::scan::free_all` meets its contract: after x turns the marks below x are set.
 -- Assumes nothing.
-use Prim.Native.Nat.{ℕ, zero-le, _-_, _≤_}
+use Prim.Native.Nat.{zero-le, _-_, _≤_}
 use mathlib.Core.Bool.{cond, _&&_}
 use native.Mathlib.Omega.{arith}
 use lib.Dec.{eqb}
@@ -10,9 +10,6 @@ use Rattle.weighing.specs.Scan.{Filled}
 use Rattle.weighing.proofs.Filling.{filled-start, filled-next, filled-end}
 use Rattle.weighing.proofs.scan.free_all.Statement.{statement}
 use Rattle.weighing.proofs.scan.free_all.Tie as tie
-use Rattle.weighing.proofs.scan.free_all.Reads as reads
-use Rattle.weighing.proofs.scan.free_all.Lts as lts
-use Rattle.weighing.proofs.scan.is_block.Reads as is-block-reads
 
 abbrev Inv-loop : tie.InvT-loop
 Inv-loop names block n p free₀ x₀ free x =
@@ -21,31 +18,24 @@ Inv-loop names block n p free₀ x₀ free x =
 abbrev μ-loop : tie.MeasureT-loop
 μ-loop names block n p free₀ x₀ free x = n - x
 
--- src/scan.rt:189:5
 loop-holds : tie.Need-loop-holds Inv-loop μ-loop
 loop-holds c = (zero-le, filled-start _ _ (c .pre .1))
 
--- src/scan.rt:190:19
 is-block-requires : tie.Need-is-block-requires Inv-loop μ-loop
 is-block-requires c κs = omega arith
 
--- src/scan.rt:190:9
 element-write-free : tie.Need-element-write-free Inv-loop μ-loop
 element-write-free c = omega arith
 
--- src/scan.rt:189:9
 add-x : tie.Need-add-x Inv-loop μ-loop
 add-x c = omega arith
 
--- src/scan.rt:189:5
 loop-less : tie.Need-loop-less Inv-loop μ-loop
 loop-less c = omega arith
 
--- src/scan.rt:189:5
 loop-again : tie.Need-loop-again Inv-loop μ-loop
 loop-again c = (omega arith, filled-next _ _ _ _ _ (c .before .before .loop .inv .1) (omega arith) (c .is-block .ensures))
 
--- src/scan.rt:185:1
 returns : tie.Need-returns Inv-loop μ-loop
 returns c = filled-end _ _ (c .before .loop .inv .1) (omega arith)
 

@@ -11,27 +11,19 @@ use Rattle.weighing.specs.Side.{heapOf}
 use Rattle.weighing.proofs.Filling.{cond-yes, cond-no}
 use Rattle.weighing.proofs.scan.is_block.Statement.{statement}
 use Rattle.weighing.proofs.scan.is_block.Tie as tie
-use Rattle.weighing.proofs.scan.is_block.Reads as reads
-use Rattle.weighing.proofs.scan.is_block.Lts as lts
-use Rattle.weighing.proofs.scan.bone.Reads as bone-reads
 
--- src/scan.rt:176:13
 element-copy-out-bone : tie.Need-element-copy-out-bone
 element-copy-out-bone c = search needs
 
--- src/scan.rt:176:8
 bone-requires : tie.Need-bone-requires
 bone-requires c κs = search needs
 
--- src/scan.rt:177:17
 element-copy-out-bone-2 : tie.Need-element-copy-out-bone-2
 element-copy-out-bone-2 c = search needs
 
--- src/scan.rt:177:12
 bone-requires-2 : tie.Need-bone-requires-2
 bone-requires-2 c κs = search needs
 
--- src/scan.rt:178:13
 returns : tie.Need-returns
 unfolding heapOf
 returns c =
@@ -42,7 +34,6 @@ returns c =
     (pile-intro (a .n) (heapOf (a .names .now)) (a .p) (a .x) (s .pre .1) (sym (c .before .before .before .before .bone .ensures .0) ∙ c .before .before .before .if1 .taken))
     (eq→eqb _ _ (sym (c .before .bone2 .ensures .0) ∙ c .if2 .taken)))
 
--- src/scan.rt:172:1
 returns-2 : tie.Need-returns-2
 unfolding heapOf
 returns-2 c =
@@ -51,7 +42,6 @@ returns-2 c =
     let e = eqb (heapOf (a .block .now) (a .x)) (a .x) in
     cond-no (t && e) 1 0 (not-T (t && e) (λ h. c .if2 .left (c .before .bone2 .ensures .0 ∙ eqb→eq _ _ (right-of t e h))))
 
--- src/scan.rt:172:1
 returns-3 : tie.Need-returns-3
 unfolding heapOf
 returns-3 c =

@@ -1,6 +1,5 @@
 -- `weighing::scan::join` meets its contract, by whether the attachment is k or more.
 -- Assumes nothing.
-use Prim.Native.Nat.{ℕ}
 use mathlib.Core.Path.{ap}
 use borrow.Author.Needs.{needs}
 use lib.Dec.{leb, le→leb, leb→le, not-T}
@@ -9,40 +8,30 @@ use native.Mathlib.Nat.{not-le-of-lt}
 use Rattle.weighing.proofs.Filling.{cond-yes, cond-no}
 use Rattle.weighing.proofs.scan.join.Statement.{statement}
 use Rattle.weighing.proofs.scan.join.Tie as tie
-use Rattle.weighing.proofs.scan.join.Reads as reads
-use Rattle.weighing.proofs.scan.join.Lts as lts
 
--- src/scan.rt:255:13
 mul-if1 : tie.Need-mul-if1
 mul-if1 c = search needs
 
--- src/scan.rt:255:13
 element-copy-out-if1 : tie.Need-element-copy-out-if1
 element-copy-out-if1 c = search needs
 
--- src/scan.rt:256:19
 element-copy-out-next : tie.Need-element-copy-out-next
 element-copy-out-next c = search needs
 
--- src/scan.rt:256:9
 element-write-next : tie.Need-element-write-next
 element-write-next c = search needs
 
--- src/scan.rt:258:19
 cast-next : tie.Need-cast-next
 cast-next c = search needs
 
--- src/scan.rt:258:9
 element-write-next-2 : tie.Need-element-write-next-2
 element-write-next-2 c = search needs
 
--- src/scan.rt:251:1
 returns : tie.Need-returns
 returns c =
     let a = c .before .before .before .args in
     ap (set (a .next .now) (a .u)) (cond-yes (leb (a .k) (getD (a .attach .now) (a .u) 0)) (getD (a .next .now) (a .last) 0) (a .u) (le→leb _ _ (c .before .if1 .taken)))
 
--- src/scan.rt:251:1
 returns-2 : tie.Need-returns-2
 returns-2 c =
     let a = c .before .before .args in

@@ -6,26 +6,19 @@ use Rattle.weighing.specs.Scan.{marked}
 use Rattle.weighing.proofs.Picking.{looked-shut, looked-less, looked-more}
 use Rattle.weighing.proofs.scan.look.Statement.{statement}
 use Rattle.weighing.proofs.scan.look.Tie as tie
-use Rattle.weighing.proofs.scan.look.Reads as reads
-use Rattle.weighing.proofs.scan.look.Lts as lts
 
--- src/scan.rt:136:8
 element-copy-out-if1 : tie.Need-element-copy-out-if1
 element-copy-out-if1 c = search needs
 
--- src/scan.rt:137:20
 mul-near : tie.Need-mul-near
 mul-near c = search needs
 
--- src/scan.rt:137:20
 element-copy-out-near : tie.Need-element-copy-out-near
 element-copy-out-near c = search needs
 
--- src/scan.rt:138:19
 add-out : tie.Need-add-out
 add-out c = search needs
 
--- src/scan.rt:140:13
 returns : tie.Need-returns
 unfolding marked
 returns c =
@@ -33,7 +26,6 @@ returns c =
     looked-more (marked (s .args .free .now)) (s .args .attach .now) (s .args .x) (s .args .got .block) (s .args .got .top) (s .args .got .out) (s .pre .1) (s .pre .0 .0)
     (eq→eqb _ 1 (c .before .before .before .before .if1 .taken)) (c .if2 .taken)
 
--- src/scan.rt:146:9
 returns-2 : tie.Need-returns-2
 unfolding marked
 returns-2 c =
@@ -41,7 +33,6 @@ returns-2 c =
     looked-less (marked (s .args .free .now)) (s .args .attach .now) (s .args .x) (s .args .got .block) (s .args .got .top) (s .args .got .out) (s .pre .1)
     (eq→eqb _ 1 (c .before .before .before .before .if1 .taken)) (c .if2 .left)
 
--- src/scan.rt:131:1
 returns-3 : tie.Need-returns-3
 unfolding marked
 returns-3 c =

@@ -12,9 +12,6 @@ use Rattle.weighing.specs.Side.{heapOf}
 use Rattle.weighing.proofs.Filling.{cond-yes, cond-no}
 use Rattle.weighing.proofs.scan.next_name.Statement.{statement}
 use Rattle.weighing.proofs.scan.next_name.Tie as tie
-use Rattle.weighing.proofs.scan.next_name.Reads as reads
-use Rattle.weighing.proofs.scan.next_name.Lts as lts
-use Rattle.weighing.proofs.scan.bone.Reads as bone-reads
 
 -- the bone is in the pile, so its block's name is below n
 in-the-pile : (c : tie.After-bone2) → let a = c .before .before .before .before .before .args in T (pile (a .n) (heapOf (a .names .now)) (a .p) (a .b))
@@ -28,31 +25,24 @@ name-below : (c : tie.After-bone2) → c .bone2 .result < 128
 unfolding heapOf
 name-below c = omega (arith, c .before .before .before .before .before .pre .1 (in-the-pile c), c .bone2 .ensures .0)
 
--- src/scan.rt:200:13
 element-copy-out-bone : tie.Need-element-copy-out-bone
 element-copy-out-bone c = search needs
 
--- src/scan.rt:200:8
 bone-requires : tie.Need-bone-requires
 bone-requires c κs = search needs
 
--- src/scan.rt:201:22
 element-copy-out-bone-2 : tie.Need-element-copy-out-bone-2
 element-copy-out-bone-2 c = search needs
 
--- src/scan.rt:201:13
 bone-requires-2 : tie.Need-bone-requires-2
 bone-requires-2 c κs = search needs
 
--- src/scan.rt:202:9
 element-copy-out-result : tie.Need-element-copy-out-result
 element-copy-out-result c = name-below c
 
--- src/scan.rt:204:9
 element-copy-out-result-2 : tie.Need-element-copy-out-result-2
 element-copy-out-result-2 c = search needs
 
--- src/scan.rt:195:1
 returns : tie.Need-returns
 unfolding heapOf
 returns c =
@@ -60,7 +50,6 @@ returns c =
     ap (λ (x : ℕ). getD (a .next .now) x 0) (c .before .bone2 .ensures .0)
     ∙ cond-yes (pile (a .n) (heapOf (a .names .now)) (a .p) (a .b)) _ _ (in-the-pile (c .before))
 
--- src/scan.rt:195:1
 returns-2 : tie.Need-returns-2
 unfolding heapOf
 returns-2 c =

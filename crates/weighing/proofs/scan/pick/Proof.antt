@@ -1,16 +1,12 @@
 -- `weighing::scan::pick` meets its contract: after x turns the blocks below x have been looked at.
 -- Assumes nothing.
 use Prim.Native.Nat.{ℕ, zero-le, _-_, _≤_}
-use native.Mathlib.Nat.{le-refl}
-use mathlib.Core.Path.{_≡_, subst}
+use mathlib.Core.Path.{subst}
 use native.Mathlib.Omega.{arith}
-use borrow.Author.Needs.{needs}
 use Rattle.weighing.specs.Scan.{marked, Looked, Picked}
-use Rattle.weighing.proofs.Picking.{looked-start, sum-most, picked-most}
+use Rattle.weighing.proofs.Picking.{looked-start, picked-most}
 use Rattle.weighing.proofs.scan.pick.Statement.{statement}
 use Rattle.weighing.proofs.scan.pick.Tie as tie
-use Rattle.weighing.proofs.scan.pick.Reads as reads
-use Rattle.weighing.proofs.scan.pick.Lts as lts
 
 abbrev Inv-loop : tie.InvT-loop
 Inv-loop free attach n got₀ x₀ got x = (x ≤ n) × Looked x (marked free) attach (got .block) (got .top) (got .out)
@@ -18,30 +14,24 @@ Inv-loop free attach n got₀ x₀ got x = (x ≤ n) × Looked x (marked free) a
 abbrev μ-loop : tie.MeasureT-loop
 μ-loop free attach n got₀ x₀ got x = n - x
 
--- src/scan.rt:165:5
 loop-holds : tie.Need-loop-holds Inv-loop μ-loop
 loop-holds c = (zero-le, looked-start _ _)
 
--- src/scan.rt:166:9
 look-requires : tie.Need-look-requires Inv-loop μ-loop
 look-requires c κs =
     let s = c .before .before in
     let l = c .before .loop in
     ((omega arith, omega (arith, s .pre .1 (l .x), picked-most (marked (s .args .free .now)) (s .args .attach .now) (l .x) 18014398509481984 (l .got .block) (l .got .out) (s .pre .1) (l .inv .1 .picked))), l .inv .1)
 
--- src/scan.rt:165:9
 add-x : tie.Need-add-x Inv-loop μ-loop
 add-x c = omega arith
 
--- src/scan.rt:165:5
 loop-less : tie.Need-loop-less Inv-loop μ-loop
 loop-less c = omega arith
 
--- src/scan.rt:165:5
 loop-again : tie.Need-loop-again Inv-loop μ-loop
 loop-again c = (omega arith, c .look .ensures)
 
--- src/scan.rt:156:1
 returns : tie.Need-returns Inv-loop μ-loop
 returns c =
     let l = c .before .loop in

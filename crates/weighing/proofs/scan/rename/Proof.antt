@@ -10,9 +10,6 @@ use Rattle.weighing.specs.Scan.{Filled}
 use Rattle.weighing.proofs.Filling.{filled-start, filled-next, filled-end}
 use Rattle.weighing.proofs.scan.rename.Statement.{statement}
 use Rattle.weighing.proofs.scan.rename.Tie as tie
-use Rattle.weighing.proofs.scan.rename.Reads as reads
-use Rattle.weighing.proofs.scan.rename.Lts as lts
-use Rattle.weighing.proofs.scan.next_name.Reads as next-name-reads
 
 abbrev Inv-loop : tie.InvT-loop
 Inv-loop names next n p block₀ b₀ block b =
@@ -21,11 +18,9 @@ Inv-loop names next n p block₀ b₀ block b =
 abbrev μ-loop : tie.MeasureT-loop
 μ-loop names next n p block₀ b₀ block b = n - b
 
--- src/scan.rt:214:5
 loop-holds : tie.Need-loop-holds Inv-loop μ-loop
 loop-holds c = (zero-le, filled-start _ _ (c .pre .0 .1))
 
--- src/scan.rt:215:20
 next-name-requires : tie.Need-next-name-requires Inv-loop μ-loop
 unfolding heapOf
 next-name-requires c κs =
@@ -33,19 +28,15 @@ next-name-requires c κs =
     let l = c .before .before .loop in
     (omega arith, λ t. omega (arith, l .inv .1 .left (l .b) (omega arith), s .pre .1 (l .b) t))
 
--- src/scan.rt:215:9
 element-write-block : tie.Need-element-write-block Inv-loop μ-loop
 element-write-block c = omega arith
 
--- src/scan.rt:214:9
 add-b : tie.Need-add-b Inv-loop μ-loop
 add-b c = omega arith
 
--- src/scan.rt:214:5
 loop-less : tie.Need-loop-less Inv-loop μ-loop
 loop-less c = omega arith
 
--- src/scan.rt:214:5
 loop-again : tie.Need-loop-again Inv-loop μ-loop
 unfolding heapOf
 loop-again c =
@@ -56,7 +47,6 @@ loop-again c =
           (c .next-name .ensures ∙ ap (λ (x : ℕ). cond (pile (a .n) (heapOf (a .names .now)) (a .p) (l .b)) (heapOf (a .next .now) x) x) (l .inv .1 .left (l .b) (omega arith))),
     )
 
--- src/scan.rt:209:1
 returns : tie.Need-returns Inv-loop μ-loop
 returns c = filled-end _ _ (c .before .loop .inv .1) (omega arith)
 

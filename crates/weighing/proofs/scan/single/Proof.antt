@@ -1,14 +1,12 @@
 -- `weighing::scan::single` meets its contract: after b turns the bones below b bear their own names.
 -- Assumes nothing.
-use Prim.Native.Nat.{ℕ, zero-le, _-_, _≤_}
+use Prim.Native.Nat.{zero-le, _-_, _≤_}
 use mathlib.Core.Path.{refl}
 use native.Mathlib.Omega.{arith}
 use Rattle.weighing.specs.Scan.{Filled}
 use Rattle.weighing.proofs.Filling.{filled-start, filled-next, filled-end}
 use Rattle.weighing.proofs.scan.single.Statement.{statement}
 use Rattle.weighing.proofs.scan.single.Tie as tie
-use Rattle.weighing.proofs.scan.single.Reads as reads
-use Rattle.weighing.proofs.scan.single.Lts as lts
 
 abbrev Inv-loop : tie.InvT-loop
 Inv-loop block₀ b₀ block b = (b ≤ 128) × Filled block₀ block (λ y. y) b
@@ -16,31 +14,24 @@ Inv-loop block₀ b₀ block b = (b ≤ 128) × Filled block₀ block (λ y. y) 
 abbrev μ-loop : tie.MeasureT-loop
 μ-loop block₀ b₀ block b = 128 - b
 
--- src/scan.rt:224:5
 loop-holds : tie.Need-loop-holds Inv-loop μ-loop
 loop-holds c = (zero-le, filled-start _ _ (c .pre))
 
--- src/scan.rt:225:20
 cast-block : tie.Need-cast-block Inv-loop μ-loop
 cast-block c = omega arith
 
--- src/scan.rt:225:9
 element-write-block : tie.Need-element-write-block Inv-loop μ-loop
 element-write-block c = omega arith
 
--- src/scan.rt:224:9
 add-b : tie.Need-add-b Inv-loop μ-loop
 add-b c = omega arith
 
--- src/scan.rt:224:5
 loop-less : tie.Need-loop-less Inv-loop μ-loop
 loop-less c = omega arith
 
--- src/scan.rt:224:5
 loop-again : tie.Need-loop-again Inv-loop μ-loop
 loop-again c = (omega arith, filled-next _ _ _ _ _ (c .before .loop .inv .1) (omega arith) refl)
 
--- src/scan.rt:220:1
 returns : tie.Need-returns Inv-loop μ-loop
 returns c = filled-end _ _ (c .before .loop .inv .1) (omega arith)
 

@@ -1,5 +1,5 @@
--- `weighing::search::search` meets its contract. Over the piles: those passed are firm, and nothing is found yet. Over the passes: the
--- blocks keep a light split of the pile, and grow fewer.
+-- `weighing::search::search` meets its contract. Over the piles: those passed are firm, and nothing is found yet. Over the passes: what is
+-- known of the pile, and its blocks grow fewer until it is settled.
 -- Assumes nothing.
 use Prim.Native.Nat.{ℕ, _+_, _-_, _≤_, _<_, min}
 use mathlib.Core.Path.{_≡_, refl, sym, _∙_, ap, subst}
@@ -18,32 +18,33 @@ use Rattle.weighing.specs.declared.search.Split.{Split}
 use Rattle.weighing.specs.Table.{held}
 use Rattle.weighing.specs.Side.{heapOf, sideOf}
 use Rattle.weighing.specs.Search.{cutOf, FirmPiles, Searched}
-use Rattle.weighing.specs.Scan.{marked, BlockNames, Kept, blocks}
+use Rattle.weighing.specs.Scan.{marked, blocks}
+use Rattle.weighing.specs.Grow.{Known}
 use Rattle.weighing.proofs.Merging.{kept-one}
 use Rattle.weighing.proofs.Scanning.{zeros}
-use Rattle.weighing.proofs.Searching.{lawful-side, firm-none, firm-more, firm-all, single-names, single-kept}
+use Rattle.weighing.proofs.Searching.{lawful-side, firm-none, firm-more, firm-all}
+use Rattle.weighing.proofs.GrowEnds.{known-passed}
 use Rattle.weighing.proofs.search.search.Statement.{statement}
 use Rattle.weighing.proofs.search.search.Tie as tie
 use Rattle.weighing.proofs.search.search.Reads as reads
 use Rattle.weighing.proofs.search.search.Lts as lts
 use Rattle.weighing.proofs.pass.pass.Reads as pass-reads
 use Rattle.weighing.proofs.scan.bone.Reads as bone-reads
-use Rattle.weighing.proofs.scan.single.Reads as single-reads
+use Rattle.weighing.proofs.grow.grow.Reads as grow-reads
 use Rattle.weighing.proofs.search.at_most.Reads as at-most-reads
 use Rattle.weighing.proofs.moved.side_of.Reads as side-of-reads
 
+-- while nothing is settled, the blocks that are left
+abbrev unsettled : Bool → Bool → ℕ → ℕ
+unsettled true one m = 0
+unsettled false true m = 0
+unsettled false false m = m + 1
+
 abbrev Inv-loop : tie.InvT-loop
-Inv-loop table names n k from bones block₀ free₀ found₀ p block free found =
-    let S = pile bones (heapOf names) p in
-    (length block ≡ 128)
-    × (length free ≡ 128)
-    × ((x : ℕ) → bones ≤ x → T (not (marked free x)))
-    × (found ≡ found₀)
-    × BlockNames S (heapOf block)
-    × Kept bones (held table) k S (heapOf block)
+Inv-loop table names n k from bones block₀ free₀ found₀ p got₀ block free found got = (found ≡ found₀) × Known bones (held table) k (pile bones (heapOf names) p) p block free (got .light) (got .one) (got .weight)
 
 abbrev μ-loop : tie.MeasureT-loop
-μ-loop table names n k from bones block₀ free₀ found₀ p block free found = blocks bones (pile bones (heapOf names) p) (heapOf block)
+μ-loop table names n k from bones block₀ free₀ found₀ p got₀ block free found got = unsettled (got .light) (got .one) (blocks bones (pile bones (heapOf names) p) (heapOf block))
 
 abbrev Inv-piles : tie.InvT-piles
 Inv-piles table names n k from bones block₀ free₀ found₀ p₀ block free found p =
@@ -57,11 +58,9 @@ Inv-piles table names n k from bones block₀ free₀ found₀ p₀ block free f
 abbrev μ-piles : tie.MeasureT-piles
 μ-piles table names n k from bones block₀ free₀ found₀ p₀ block free found p = bones - p
 
--- src/search.rt:32:9
 at-most-requires : tie.Need-at-most-requires Inv-loop μ-loop Inv-piles μ-piles
 at-most-requires c κs = tt
 
--- src/search.rt:42:5
 -- at first nothing is marked
 unmarked : (x : ℕ) → T (not (marked (replicate 128 0) x))
 unfolding marked
@@ -69,80 +68,67 @@ unmarked x = subst (λ (y : ℕ). T (not (eqb y 1))) (sym (zeros 128 x)) tt
 
 piles-holds : tie.Need-piles-holds Inv-loop μ-loop Inv-piles μ-piles
 unfolding marked
-piles-holds c =
-    (refl, refl, λ x h. unmarked x, refl, le-refl _, firm-none _ _ _ _ _)
+piles-holds c = (refl, refl, λ x h. unmarked x, refl, le-refl _, firm-none _ _ _ _ _)
 
--- src/search.rt:43:17
 element-copy-out-bone : tie.Need-element-copy-out-bone Inv-loop μ-loop Inv-piles μ-piles
 element-copy-out-bone c = omega (arith, c .before .before .at-most .ensures)
 
--- src/search.rt:43:12
 bone-requires : tie.Need-bone-requires Inv-loop μ-loop Inv-piles μ-piles
 bone-requires c κs = tt
 
--- src/search.rt:44:13
-single-requires : tie.Need-single-requires Inv-loop μ-loop Inv-piles μ-piles
-single-requires c κs = c .before .before .before .before .before .piles .inv .0
-
--- src/search.rt:45:13
--- the bones of the pile are below 128, and the pile stands
-in-128 : (c : tie.Then1 Inv-loop μ-loop Inv-piles μ-piles) → (b : ℕ) → T (pile (c .before .before .before .before .before .at-most .result) (heapOf (c .before .before .before .before .before .before .args .names .now)) (c .before .before .before .before .piles .p) b) → b < 128
-in-128 c b t = omega (arith, pile-bone (c .before .before .before .before .before .at-most .result) (heapOf (c .before .before .before .before .before .before .args .names .now)) (c .before .before .before .before .piles .p) b t, c .before .before .before .before .before .at-most .ensures)
-
+-- the pile stands
 standing : (c : tie.Then1 Inv-loop μ-loop Inv-piles μ-piles) → T (stands (c .before .before .before .before .before .at-most .result) (heapOf (c .before .before .before .before .before .before .args .names .now)) (c .before .before .before .before .piles .p))
 unfolding stands heapOf
 standing c =
     pile-intro (c .before .before .before .before .before .at-most .result) (heapOf (c .before .before .before .before .before .before .args .names .now)) (c .before .before .before .before .piles .p) (c .before .before .before .before .piles .p) (c .before .before .before .piles-test .taken)
     (sym (c .before .bone .ensures .0) ∙ c .if1 .taken)
 
+grow-requires : tie.Need-grow-requires Inv-loop μ-loop Inv-piles μ-piles
+grow-requires c κs =
+    let i = c .before .before .before .before .before .before .piles .inv in
+    ((omega (arith, c .before .before .before .before .before .before .before .at-most .ensures), i .0, i .1), (i .2, standing (c .before .before)))
+
 loop-holds : tie.Need-loop-holds Inv-loop μ-loop Inv-piles μ-piles
-loop-holds c =
-    let i = c .before .before .before .before .before .before .piles .inv in (
-      c .single .ensures .long,
-      i .1,
-      i .2,
-      refl,
-      single-names _ _ (c .single .last .0) (in-128 (c .before .before)) (c .single .ensures),
-      single-kept _ _ _ _ _ (c .single .last .0) (in-128 (c .before .before)) (c .single .ensures),
-    )
+loop-holds c = (refl, c .grow .ensures)
 
--- src/search.rt:46:21
-pass-requires : tie.Need-pass-requires Inv-loop μ-loop Inv-piles μ-piles
-pass-requires c κs =
-    let i = c .before .before .loop .inv in
-    ((omega (arith, c .before .before .before .before .before .before .before .before .before .before .at-most .ensures), i .0, i .1), (i .2, (standing (c .before .before .before .before .before), i .4)))
-
--- src/search.rt:50:25
 side-of-requires : tie.Need-side-of-requires Inv-loop μ-loop Inv-piles μ-piles
 side-of-requires c κs = (
-  omega (arith, c .before .before .before .before .before .before .before .before .before .before .before .before .before .before .at-most .ensures),
-  λ b t. pile-bone (c .before .before .before .before .before .before .before .before .before .before .before .before .before .before .at-most .result) (heapOf (c .before .before .before .before .before .before .before .before .before .before .before .before .before .before .before .args .names .now)) (c .before .before .before .before .before .before .before .before .before .before .before .before .before .piles .p) _ (c .before .before .before .pass .ensures .names .inside b t),
+  omega (arith, c .before .before .before .before .before .before .before .before .before .before .before .before .at-most .ensures),
+  λ b t. pile-bone (c .before .before .before .before .before .before .before .before .before .before .before .before .at-most .result) (heapOf (c .before .before .before .before .before .before .before .before .before .before .before .before .before .args .names .now)) (c .before .before .before .before .before .before .before .before .before .before .before .piles .p) _ (c .before .before .before .loop .inv .1 .names .inside b t),
 )
 
--- src/search.rt:53:31
-cast-t28 : tie.Need-cast-t28 Inv-loop μ-loop Inv-piles μ-piles
-cast-t28 c = omega (arith, c .before .before .before .before .before .before .before .before .before .before .before .before .before .piles-test .taken, c .before .before .before .before .before .before .before .before .before .before .before .before .before .before .before .at-most .ensures)
+cast-t26 : tie.Need-cast-t26 Inv-loop μ-loop Inv-piles μ-piles
+cast-t26 c = omega (arith, c .before .before .before .before .before .before .before .before .before .before .before .piles-test .taken, c .before .before .before .before .before .before .before .before .before .before .before .before .before .at-most .ensures)
 
--- src/search.rt:45:13
+pass-requires : tie.Need-pass-requires Inv-loop μ-loop Inv-piles μ-piles
+pass-requires c κs =
+    let i = c .before .before .before .before .loop .inv .1 in
+    ((omega (arith, c .before .before .before .before .before .before .before .before .before .before .before .before .before .at-most .ensures), i .long, i .free-long), (i .free-rest, (standing (c .before .before .before .before .before .before .before .before), i .names)))
+
+-- a pass settles the pile, or leaves fewer blocks
+settles : (lit alone light one : Bool) (m m′ : ℕ) → lit ≡ false → alone ≡ false → (light ≡ false → one ≡ false → m′ < m) → unsettled light one m′ < unsettled lit alone m
+settles true alone light one m m′ e f fewer = absurd (subst T e tt)
+settles false true light one m m′ e f fewer = absurd (subst T f tt)
+settles false false true one m m′ e f fewer = omega arith
+settles false false false true m m′ e f fewer = omega arith
+settles false false false false m m′ e f fewer = omega (arith, fewer refl refl)
+
 loop-less : tie.Need-loop-less Inv-loop μ-loop Inv-piles μ-piles
-loop-less c = c .before .before .pass .ensures .fewer (c .before .if2 .left) (c .if3 .left)
+loop-less c =
+    let l = c .before .before .before .before .before .loop in
+    settles (l .got .light) (l .got .one) (c .pass .result .light) (c .pass .result .one) _ _ (c .before .before .before .before .if2 .left) (c .before .before .before .if3 .left) (c .pass .ensures .fewer)
 
--- src/search.rt:45:13
 loop-again : tie.Need-loop-again Inv-loop μ-loop Inv-piles μ-piles
 loop-again c =
-    let r = c .before .before .pass .ensures in
     let i = c .before .before .before .before .before .loop .inv in
-    (r .long, r .free-long, r .free-rest, i .3, r .names, r .kept (i .5))
+    (i .0, known-passed (i .1) (c .pass .ensures))
 
--- src/search.rt:64:9
 add-p : tie.Need-add-p Inv-loop μ-loop Inv-piles μ-piles
 add-p c = omega (arith, c .before .before .before .piles-test .taken, c .before .before .before .before .before .at-most .ensures)
 
--- src/search.rt:42:5
 piles-less : tie.Need-piles-less Inv-loop μ-loop Inv-piles μ-piles
 piles-less c = omega (arith, c .before .before .before .piles-test .taken)
 
--- src/search.rt:42:5
 -- a pile that stands bears its own name
 named-so : (c : tie.Joined1 Inv-loop μ-loop Inv-piles μ-piles) → T (stands (c .before .before .before .before .before .at-most .result) (heapOf (c .before .before .before .before .before .before .args .names .now)) (c .before .before .before .before .piles .p)) → c .before .bone .result ≡ c .before .before .before .before .piles .p
 unfolding stands heapOf
@@ -153,13 +139,13 @@ piles-again c =
     let i = c .before .before .before .before .piles .inv in
     ⊎-elim
     (λ w.
-    let r = w .6 .ensures in (
-      subst (λ (l : List ℕ). length l ≡ 128) (sym (w .9)) (r .long),
-      subst (λ (l : List ℕ). length l ≡ 128) (sym (w .10)) (r .free-long),
-      (λ x h. subst (λ (l : List ℕ). T (not (marked l x))) (sym (w .10)) (r .free-rest x h)),
-      w .11 ∙ w .3 .inv .3 ∙ i .3,
+    let r = w .4 .inv .1 in (
+      subst (λ (l : List ℕ). length l ≡ 128) (sym (w .7)) (r .long),
+      subst (λ (l : List ℕ). length l ≡ 128) (sym (w .8)) (r .free-long),
+      (λ x h. subst (λ (l : List ℕ). T (not (marked l x))) (sym (w .8)) (r .free-rest x h)),
+      w .9 ∙ w .4 .inv .0 ∙ i .3,
       omega (arith, i .4),
-      firm-more _ _ _ _ _ _ (i .5) (λ s. kept-one _ _ _ _ _ _ (r .alone (w .7 .left) (w .8 .taken)) (r .kept (w .3 .inv .5))),
+      firm-more _ _ _ _ _ _ (i .5) (λ s. kept-one _ _ _ _ _ _ (r .alone (w .5 .left) (w .6 .taken)) (r .kept)),
     ))
     (λ w. (
       subst (λ (l : List ℕ). length l ≡ 128) (sym (w .1)) (i .0),
@@ -171,7 +157,6 @@ piles-again c =
     ))
     (c .if1 .came)
 
--- src/search.rt:29:1
 returns : tie.Need-returns Inv-loop μ-loop Inv-piles μ-piles
 unfolding Searched
 returns c =
@@ -181,21 +166,21 @@ returns c =
     (subst (λ (r : Split). Searched (c .before .before .at-most .result) (held (a .table .now)) (a .k) (heapOf (a .names .now)) (a .from) r (r .light)) (sym (i .3))
     (firm-all _ _ _ _ _ _ (c .piles-test .left) (i .5), refl, refl, refl))
 
--- src/search.rt:29:1
 returns-2 : tie.Need-returns-2 Inv-loop μ-loop Inv-piles μ-piles
 unfolding Searched cutOf
 returns-2 c =
-    let a = c .before .before .before .before .before .before .before .before .before .before .before .before .before .before .before .before .args in
-    let n = c .before .before .before .before .before .before .before .before .before .before .before .before .before .before .before .at-most .result in
-    let r = c .before .before .before .before .pass .ensures in
-    let p = c .before .before .before .before .before .before .before .before .before .before .before .before .before .before .piles .p in
+    let a = c .before .before .before .before .before .before .before .before .before .before .before .before .before .before .args in
+    let n = c .before .before .before .before .before .before .before .before .before .before .before .before .before .at-most .result in
+    let i = c .before .before .before .before .before .before .before .before .before .before .before .before .piles .inv in
+    let l = c .before .before .before .before .loop in
+    let p = c .before .before .before .before .before .before .before .before .before .before .before .before .piles .p in
     subst
-    (λ (m : ℕ). Searched m (held (a .table .now)) (a .k) (heapOf (a .names .now)) (a .from) (record { light = true; pile = p; weight = c .before .before .before .before .pass .result .weight; side = c .side-of .result }) true)
-    (c .before .before .before .before .before .before .before .before .before .before .before .before .before .before .before .at-most .ensures) (
-      lawful-side n (held (a .table .now)) (a .k) (heapOf (a .names .now)) p (heapOf (c .before .before .before .before .pass .last .1 .1 .1 .1 .1 .0)) (marked (c .before .before .before .before .pass .last .1 .1 .1 .1 .1 .1 .0)) (sideOf (c .side-of .result)) (c .before .before .before .before .pass .result .weight)
-          (standing (c .before .before .before .before .before .before .before .before .before .before)) (r .found (c .before .before .before .if2 .taken)) (c .side-of .ensures),
-      c .before .before .before .before .before .before .before .before .before .before .before .before .before .before .piles .inv .4,
-      c .before .before .before .before .before .before .before .before .before .before .before .before .before .before .piles .inv .5,
+    (λ (m : ℕ). Searched m (held (a .table .now)) (a .k) (heapOf (a .names .now)) (a .from) (record { light = true; pile = p; weight = l .got .weight; side = c .side-of .result }) true)
+    (c .before .before .before .before .before .before .before .before .before .before .before .before .before .at-most .ensures) (
+      lawful-side n (held (a .table .now)) (a .k) (heapOf (a .names .now)) p (heapOf (l .block)) (marked (l .free)) (sideOf (c .side-of .result)) (l .got .weight)
+          (standing (c .before .before .before .before .before .before .before .before)) (l .inv .1 .found (c .before .before .before .if2 .taken)) (c .side-of .ensures),
+      i .4,
+      i .5,
     )
 
 pub search-spec : {M : Type 1} → statement M
@@ -210,11 +195,11 @@ search-spec =
     piles-holds
     element-copy-out-bone
     bone-requires
-    single-requires
+    grow-requires
     loop-holds
-    pass-requires
     side-of-requires
-    cast-t28
+    cast-t26
+    pass-requires
     loop-less
     loop-again
     add-p

@@ -1,0 +1,243 @@
+//! Families of lists, each made from a bone count and a seed.
+
+use crate::list::List;
+use crate::rng::Rng;
+
+pub struct Family {
+    pub name: &'static str,
+    pub make: fn(usize, &mut Rng) -> List,
+}
+
+const fn family(name: &'static str, make: fn(usize, &mut Rng) -> List) -> Family {
+    Family { name, make }
+}
+
+pub const FAMILIES: &[Family] = &[
+    family("sparse", |n, rng| random(n, 2 * n, 3, 3, rng)),
+    family("sparse, k 1", |n, rng| random(n, n, 3, 1, rng)),
+    family("dense, firm", |n, rng| dense(n, 50, rng)),
+    family("dense, some fall", |n, rng| dense(n, 78, rng)),
+    family("dense, apart", |n, rng| dense(n, 200, rng)),
+    family("planted blocks", planted),
+    family("cliques, bridges", |n, rng| cliques(n, 7, rng)),
+    family("cliques, k 2", |n, rng| cliques(n, 2, rng)),
+    family("cycle, k 2", |n, rng| ring(n, &[1], 2, rng)),
+    family("cycle, k 3", |n, rng| ring(n, &[1], 3, rng)),
+    family("cycle in order", |n, _| circulant(n, &[1], 2)),
+    family("all linked, firm", |n, rng| all_linked(n.min(91), 1, rng)),
+    family("all linked, apart", |n, rng| all_linked(n.min(91), 0, rng)),
+    family("4096 of 65535", |n, rng| heavy(n, 4096, rng)),
+    family("few of 65535", |n, rng| heavy(n, n, rng)),
+    family("path, k 2", |n, rng| path(n, 2, rng)),
+    family("star, k 2", |n, rng| star(n, rng)),
+    family("cubic, k 3", |n, rng| cubic(n, 3, rng)),
+    family("ring of 1 2, k 4", |n, rng| ring(n, &[1, 2], 4, rng)),
+    family("ring of 1 2 3, k 6", |n, rng| ring(n, &[1, 2, 3], 6, rng)),
+    family("torus, k 4", torus),
+    family("cube", cube),
+    family("rings on a string", rings),
+    family("two cubic halves", halves),
+    family("domino 1 2", |n, rng| domino(n, &[1, 2], rng)),
+    family("domino 1 2 3", |n, rng| domino(n, &[1, 2, 3], rng)),
+    family("domino torus", domino_torus),
+    family("weighted ring", weighted_ring),
+];
+
+fn shuffled(mut list: List, rng: &mut Rng) -> List {
+    let order = rng.permutation(list.n);
+    list.renumber(&order);
+    list
+}
+
+fn pair(n: usize, rng: &mut Rng) -> (usize, usize) {
+    let a = rng.below(n);
+    (a, (a + 1 + rng.below(n - 1)) % n)
+}
+
+fn random(n: usize, links: usize, most: usize, k: usize, rng: &mut Rng) -> List {
+    let mut list = List::new(n, k);
+    for _ in 0..links {
+        let (a, b) = pair(n, rng);
+        list.link(a, b, rng.within(1, most));
+    }
+    list
+}
+
+/// 4,096 links; k is a share, in percent, of the mean tally of a bone.
+fn dense(n: usize, percent: usize, rng: &mut Rng) -> List {
+    let mut list = random(n, 4096, 9, 1, rng);
+    list.k = (list.tallies() * 2 / n * percent / 100).min(65_535);
+    list
+}
+
+/// Blocks of some eight to sixteen bones, most of which hold at k = 4, and one weak bridge from each to the next.
+fn planted(n: usize, rng: &mut Rng) -> List {
+    let size = rng.within(8, 16).min(n / 2);
+    let mut list = List::new(n, 4);
+    for a in 0..n {
+        for b in a + 1..n {
+            if a / size == b / size && rng.below(10) < 7 {
+                list.link(a, b, rng.within(1, 3));
+            }
+        }
+        if a % size == 0 && a > 0 {
+            list.link(a, a - 1, rng.within(1, 3));
+        }
+    }
+    shuffled(list, rng)
+}
+
+/// Cliques of eight bones, each joined to the next by one link.
+fn cliques(n: usize, k: usize, rng: &mut Rng) -> List {
+    let mut list = List::new(n, k);
+    for a in 0..n {
+        for b in a + 1..n.min(a / 8 * 8 + 8) {
+            list.link(a, b, 1);
+        }
+        if a % 8 == 7 && a + 1 < n {
+            list.link(a, a + 1, 1);
+        }
+    }
+    shuffled(list, rng)
+}
+
+/// Each bone linked to those that stand the given steps further round.
+fn circulant(n: usize, steps: &[usize], k: usize) -> List {
+    let mut list = List::new(n, k);
+    for a in 0..n {
+        for step in steps {
+            list.link(a, (a + step) % n, 1);
+        }
+    }
+    list
+}
+
+fn ring(n: usize, steps: &[usize], k: usize, rng: &mut Rng) -> List {
+    shuffled(circulant(n, steps, k), rng)
+}
+
+fn all_linked(n: usize, less: usize, rng: &mut Rng) -> List {
+    let mut list = List::new(n, n - less);
+    for a in 0..n {
+        for b in a + 1..n {
+            list.link(a, b, 1);
+        }
+    }
+    shuffled(list, rng)
+}
+
+fn heavy(n: usize, links: usize, rng: &mut Rng) -> List {
+    let mut list = List::new(n, 65_535);
+    for _ in 0..links {
+        let (a, b) = pair(n, rng);
+        list.link(a, b, 65_535);
+    }
+    list
+}
+
+fn path(n: usize, k: usize, rng: &mut Rng) -> List {
+    let mut list = List::new(n, k);
+    for a in 1..n {
+        list.link(a - 1, a, 1);
+    }
+    shuffled(list, rng)
+}
+
+fn star(n: usize, rng: &mut Rng) -> List {
+    let mut list = List::new(n, 2);
+    for a in 1..n {
+        list.link(0, a, 1);
+    }
+    shuffled(list, rng)
+}
+
+/// A ring and a random matching: three links a bone.
+fn add_cubic(list: &mut List, from: usize, to: usize, rng: &mut Rng) {
+    let size = to - from;
+    for a in 0..size {
+        list.link(from + a, from + (a + 1) % size, 1);
+    }
+    let mates = rng.permutation(size);
+    for two in mates.chunks_exact(2) {
+        list.link(from + two[0], from + two[1], 1);
+    }
+}
+
+fn cubic(n: usize, k: usize, rng: &mut Rng) -> List {
+    let mut list = List::new(n, k);
+    add_cubic(&mut list, 0, n, rng);
+    shuffled(list, rng)
+}
+
+/// Two halves of three links a bone, joined by two links: no bone is light, yet the whole is.
+fn halves(n: usize, rng: &mut Rng) -> List {
+    let mut list = List::new(n, 3);
+    add_cubic(&mut list, 0, n / 2, rng);
+    add_cubic(&mut list, n / 2, n, rng);
+    list.link(0, n / 2, 1);
+    list.link(1, n / 2 + 1, 1);
+    shuffled(list, rng)
+}
+
+fn torus_in_order(n: usize) -> List {
+    let wide = 1 << (n.ilog2() / 2);
+    let mut list = List::new(n, 4);
+    for a in 0..n {
+        list.link(a, a / wide * wide + (a + 1) % wide, 1);
+        list.link(a, (a + wide) % n, 1);
+    }
+    list
+}
+
+fn torus(n: usize, rng: &mut Rng) -> List {
+    shuffled(torus_in_order(n), rng)
+}
+
+fn cube(n: usize, rng: &mut Rng) -> List {
+    let axes = n.ilog2() as usize;
+    let mut list = List::new(n, axes);
+    for a in 0..n {
+        for axis in 0..axes {
+            if a >> axis & 1 == 0 {
+                list.link(a, a | 1 << axis, 1);
+            }
+        }
+    }
+    shuffled(list, rng)
+}
+
+/// Rings of eight bones, each joined to the next by one link: at k = 2 the rings hold and the string does not.
+fn rings(n: usize, rng: &mut Rng) -> List {
+    let mut list = List::new(n, 2);
+    for a in 0..n {
+        list.link(a, a / 8 * 8 + (a + 1) % 8, 1);
+        if a % 8 == 7 && a + 1 < n {
+            list.link(a, a + 1, 1);
+        }
+    }
+    shuffled(list, rng)
+}
+
+/// A list that is firm but for one link taken away: one bone after another falls off.
+fn fell(mut list: List, rng: &mut Rng) -> List {
+    let at = 4 * rng.below(list.count());
+    list.links.drain(at..at + 4);
+    shuffled(list, rng)
+}
+
+fn domino(n: usize, steps: &[usize], rng: &mut Rng) -> List {
+    fell(circulant(n, steps, 2 * steps.len()), rng)
+}
+
+fn domino_torus(n: usize, rng: &mut Rng) -> List {
+    fell(torus_in_order(n), rng)
+}
+
+/// A ring whose tallies differ from link to link, with k just above the least sum of two of them: few merges a pass.
+fn weighted_ring(n: usize, rng: &mut Rng) -> List {
+    let mut list = List::new(n, 2_000);
+    for a in 0..n {
+        list.link(a, (a + 1) % n, rng.within(998, 1_100));
+    }
+    shuffled(list, rng)
+}

@@ -1,0 +1,164 @@
+-- From a table to the links that fill it: what a core promises of the table's tally is what the call promises of the links'.
+-- Assumes nothing.
+use Prim.Native.Nat.{ℕ, _*_, _-_, _≤_, _<_}
+use mathlib.Core.Path.{_≡_, refl, sym, _∙_, ap, ap₂, subst}
+use mathlib.Core.Bool.{Bool, true}
+use mathlib.Core.List.{List, [], _∷_, _++_}
+use lib.Dec.{T}
+use lib.ListN.{length, take, drop, replicate}
+use borrow.Author.Tests.{lt-ltb, le-ltb}
+use Rattle.meaning.specs.declared.Link.{Link}
+use Rattle.meaning.specs.declared.Judged.{Judged}
+use Rattle.meaning.specs.declared.Judged.the-variants.{Accepted, Refused}
+use Rattle.meaning.specs.Judge.{refuse, first}
+use Rattle.meaning.specs.Tally.{Tally, pairTally}
+use Rattle.meaning.specs.Firm.{label, groups}
+use Rattle.meaning.specs.Heap.{Heap, start, LawfulRun, left, piles, finished}
+use Rattle.weighing.specs.Links.{tableRows}
+use Rattle.weighing.specs.Table.{held, filled}
+use Rattle.weighing.proofs.LinksBytes.{Short}
+use Rattle.weighing.proofs.LinksRows.{Counted, table-counted, first-accepted, first-refused}
+use Rattle.weighing.proofs.TableHeld.{table-holds}
+use Rattle.cutting.specs.declared.Answer.{Answer}
+use Rattle.cutting.specs.declared.Answer.the-variants.{Gave, Refused as Refused·answer}
+use Rattle.cutting.specs.Record.{entrySize, cutsOf}
+use Rattle.cutting.specs.Rows.{labelRow, spaceRow, recordRow, recordRows, checkingRows, groupingRows}
+use Rattle.cutting.specs.Calls.{answered, settled, written, Checked, Continued, Recorded, Grouped}
+use Rattle.cutting.proofs.Alike.{Alike, label-alike, groups-alike, finished-alike, entries-alike, run-alike}
+
+module _ (n : ℕ) (v w : Tally) (alike : Alike n v w) (k : ℕ) where
+  pub rows-alike : (bytes : List ℕ) → recordRows n v k bytes ≡ recordRows n w k bytes
+  unfolding recordRows
+  rows-alike bytes = ap (λ (js : List Judged). recordRow n (length bytes) ∷ js) (entries-alike n v w alike k (cutsOf bytes) start 0)
+
+  pub checked-alike : (rows rows′ : List Judged) (bytes labels labels′ : List ℕ) (r : Answer) → first rows ≡ first rows′ → Checked rows n v k bytes labels labels′ r → Checked rows′ n w k bytes labels labels′ r
+  checked-alike rows rows′ bytes labels labels′ r e c =
+      record {
+        answer = c .answer ∙ ap₂ (λ (j : Judged) (t : Bool). answered j (piles n (left n start (cutsOf bytes))) t) e (finished-alike n v w alike k (left n start (cutsOf bytes)));
+        names-left = c .names-left ∙ ap (λ (j : Judged). settled j labels (written n (left n start (cutsOf bytes)) labels)) e;
+      }
+
+  continued-alike : (bytes space space′ : List ℕ) → Continued n v k bytes space space′ → Continued n w k bytes space space′
+  continued-alike bytes space space′ c =
+      let g = groups-alike n v w alike k in
+      record {
+        given = c .given;
+        rest = subst (λ (m : ℕ). drop (entrySize * (m - 1)) space′ ≡ drop (entrySize * (m - 1)) space) g (c .rest);
+        lawful = subst (λ (m : ℕ). LawfulRun n w k start (cutsOf (take (entrySize * (m - 1)) space′))) g (run-alike n v w alike k (cutsOf (take (entrySize * (groups n v k - 1)) space′)) start (c .lawful));
+        done = subst (λ (m : ℕ). T (finished n w k (left n start (cutsOf (take (entrySize * (m - 1)) space′))))) g (subst T (finished-alike n v w alike k (left n start (cutsOf (take (entrySize * (groups n v k - 1)) space′)))) (c .done));
+      }
+
+  recorded-alike : (j : Judged) (bytes space space′ : List ℕ) → Recorded j n v k bytes space space′ → Recorded j n w k bytes space space′
+  unfolding Recorded
+  recorded-alike Accepted bytes space space′ c = continued-alike bytes space space′ c
+  recorded-alike (Refused number place) bytes space space′ c = c
+
+  pub grouped-alike : (rows rows′ : List Judged) (bytes labels labels′ space space′ : List ℕ) (r : Answer) → first rows ≡ first rows′ → Grouped rows n v k bytes labels labels′ space space′ r → Grouped rows′ n w k bytes labels labels′ space space′ r
+  grouped-alike rows rows′ bytes labels labels′ space space′ r e c =
+      record {
+        answer = c .answer ∙ ap₂ (λ (j : Judged) (m : ℕ). answered j m true) e (groups-alike n v w alike k);
+        labels-left = c .labels-left ∙ ap₂ (λ (j : Judged) (h : Heap). settled j labels (written n h labels)) e (label-alike n v w alike k);
+        record-left = subst (λ (j : Judged). Recorded j n w k bytes space space′) e (recorded-alike (first rows) bytes space space′ (c .record-left));
+      }
+
+-- ---- a table that was filled from nought
+
+module _ (n k : ℕ) (good : Bool) (links : List Link) (r : Judged) (judged : r ≡ first (tableRows n k good links)) (accepted : r ≡ Accepted) where
+  pub filled-counted : Counted n k good (length links)
+  filled-counted = table-counted n k good links (sym judged ∙ accepted)
+
+  pub filled-alike : (t : List ℕ) → t ≡ filled r (replicate 16384 0) links → Short links → Alike n (held t) (pairTally links)
+  unfolding filled
+  filled-alike t e short i j hi hj =
+      ap (λ (x : List ℕ). held x i j) (e ∙ ap (λ (x : Judged). filled x (replicate 16384 0) links) accepted)
+      ∙ table-holds n k good links (sym judged ∙ accepted) short i j hi hj
+
+-- ---- the rows of a call: those of the links, and then those of a core
+
+module _ (n k : ℕ) (good : Bool) (links : List Link) (bytes : List ℕ) (labelRoom : ℕ) where
+  pub checking-core : (v : Tally) → Alike n v (pairTally links) → first (tableRows n k good links) ≡ Accepted
+      → first (labelRow n labelRoom ∷ recordRows n v k bytes) ≡ first (checkingRows n k good links bytes labelRoom)
+  unfolding checkingRows
+  checking-core v alike accepted =
+      ap (λ (js : List Judged). first (labelRow n labelRoom ∷ js)) (rows-alike n v (pairTally links) alike k bytes)
+      ∙ sym (first-accepted (tableRows n k good links) (labelRow n labelRoom ∷ recordRows n (pairTally links) k bytes) accepted)
+
+  pub checking-stop : (number place : ℕ) → first (tableRows n k good links) ≡ Refused number place → first (checkingRows n k good links bytes labelRoom) ≡ Refused number place
+  unfolding checkingRows
+  checking-stop number place e =
+      first-refused (tableRows n k good links) (labelRow n labelRoom ∷ recordRows n (pairTally links) k bytes) number place e
+
+  module _ (recordRoom : ℕ) where
+    pub grouping-core : (v : Tally) → Alike n v (pairTally links) → first (tableRows n k good links) ≡ Accepted
+        → first (labelRow n labelRoom ∷ spaceRow n recordRoom ∷ recordRows n v k bytes) ≡ first (groupingRows n k good links bytes labelRoom recordRoom)
+    unfolding groupingRows
+    grouping-core v alike accepted =
+        ap (λ (js : List Judged). first (labelRow n labelRoom ∷ spaceRow n recordRoom ∷ js)) (rows-alike n v (pairTally links) alike k bytes)
+        ∙ sym (first-accepted (tableRows n k good links) (labelRow n labelRoom ∷ spaceRow n recordRoom ∷ recordRows n (pairTally links) k bytes) accepted)
+
+    pub grouping-stop : (number place : ℕ) → first (tableRows n k good links) ≡ Refused number place → first (groupingRows n k good links bytes labelRoom recordRoom) ≡ Refused number place
+    unfolding groupingRows
+    grouping-stop number place e =
+        first-refused (tableRows n k good links) (labelRow n labelRoom ∷ spaceRow n recordRoom ∷ recordRows n (pairTally links) k bytes) number place e
+
+-- rows 7 and 8
+module _ (n room : ℕ) (js : List Judged) where
+  pub label-short : room < n → first (labelRow n room ∷ js) ≡ Refused 7 0
+  unfolding labelRow refuse first
+  label-short l = rw (lt-ltb room n l)
+
+  pub label-fits : n ≤ room → first (labelRow n room ∷ js) ≡ first js
+  unfolding labelRow refuse first
+  label-fits l = rw (le-ltb room n l)
+
+  pub space-short : room < entrySize * (n - 1) → first (spaceRow n room ∷ js) ≡ Refused 8 0
+  unfolding spaceRow refuse first
+  space-short l = rw (lt-ltb room (entrySize * (n - 1)) l)
+
+  pub space-fits : entrySize * (n - 1) ≤ room → first (spaceRow n room ∷ js) ≡ first js
+  unfolding spaceRow refuse first
+  space-fits l = rw (le-ltb room (entrySize * (n - 1)) l)
+
+-- ---- a refusal is the answer, and nothing is changed
+
+module _ (rows : List Judged) (n : ℕ) (w : Tally) (k : ℕ) (bytes labels : List ℕ) (number place : ℕ) (e : first rows ≡ Refused number place) where
+  pub checked-refused : Checked rows n w k bytes labels labels (Refused·answer number place)
+  unfolding answered settled
+  checked-refused =
+      record {
+        answer = ap (λ (j : Judged). answered j (piles n (left n start (cutsOf bytes))) (finished n w k (left n start (cutsOf bytes)))) (sym e);
+        names-left = ap (λ (j : Judged). settled j labels (written n (left n start (cutsOf bytes)) labels)) (sym e);
+      }
+
+  pub grouped-refused : (space : List ℕ) → Grouped rows n w k bytes labels labels space space (Refused·answer number place)
+  unfolding answered settled Recorded
+  grouped-refused space =
+      record {
+        answer = ap (λ (j : Judged). answered j (groups n w k) true) (sym e);
+        labels-left = ap (λ (j : Judged). settled j labels (written n (label n w k) labels)) (sym e);
+        record-left = subst (λ (j : Judged). Recorded j n w k bytes space space) (sym e) refl;
+      }
+
+-- ---- accepted
+
+module _ (rows : List Judged) (n : ℕ) (w : Tally) (k : ℕ) (bytes labels labels′ : List ℕ) (e : first rows ≡ Accepted) where
+  pub checked-accepted : (h : Heap) (r : Answer) → h ≡ left n start (cutsOf bytes) → r ≡ Gave (piles n h) (finished n w k h) → labels′ ≡ written n h labels → Checked rows n w k bytes labels labels′ r
+  unfolding answered settled
+  checked-accepted h r p q l =
+      record {
+        answer = q
+            ∙ ap (λ (x : Heap). Gave (piles n x) (finished n w k x)) p
+            ∙ ap (λ (j : Judged). answered j (piles n (left n start (cutsOf bytes))) (finished n w k (left n start (cutsOf bytes)))) (sym e);
+        names-left = l
+            ∙ ap (λ (x : Heap). written n x labels) p
+            ∙ ap (λ (j : Judged). settled j labels (written n (left n start (cutsOf bytes)) labels)) (sym e);
+      }
+
+  pub grouped-accepted : (space space′ : List ℕ) (r : Answer) → r ≡ Gave (groups n w k) true → labels′ ≡ written n (label n w k) labels → Continued n w k bytes space space′ → Grouped rows n w k bytes labels labels′ space space′ r
+  unfolding answered settled Recorded
+  grouped-accepted space space′ r q l c =
+      record {
+        answer = q ∙ ap (λ (j : Judged). answered j (groups n w k) true) (sym e);
+        labels-left = l ∙ ap (λ (j : Judged). settled j labels (written n (label n w k) labels)) (sym e);
+        record-left = subst (λ (j : Judged). Recorded j n w k bytes space space′) (sym e) c;
+      }

@@ -1,0 +1,254 @@
+-- Laws of thinning: a link as bytes, one link more or less, and the links kept of the whole run.
+-- Assumes nothing.
+use Prim.Native.Nat.{ℕ, zero, suc, _+_, _*_, _-_, _/_, _%_, _≤_, _<_, zero-le}
+use mathlib.Core.Path.{_≡_, refl, sym, _∙_, ap, ap₂, subst}
+use mathlib.Core.Bool.{Bool, true, false, cond}
+use mathlib.Core.List.{List, [], _∷_, _++_, append-nil, append-assoc}
+use native.Mathlib.Nat.{le-refl, add-zero}
+use native.Mathlib.Omega.{arith}
+use lib.Dec.{eqb}
+use lib.ListN.{length, getD, take, drop, length-take, length-drop, take-append-drop}
+use borrow.Author.Tests.{lt-ltb, le-ltb}
+use lib.Seq.{paste, getD-drop, drop-drop, take-take, take-paste, drop-paste, length-paste}
+use Rattle.meaning.specs.declared.Link.{Link}
+use Rattle.meaning.specs.declared.Judged.{Judged}
+use Rattle.meaning.specs.declared.Judged.the-variants.{Accepted, Refused}
+use Rattle.meaning.specs.Judge.{refuse, first}
+use Rattle.meaning.specs.Tally.{Tally}
+use Rattle.meaning.specs.Firm.{label}
+use Rattle.meaning.specs.Heap.{Heap}
+use Rattle.weighing.specs.Links.{linksOf, linkAt, linkRows, linksRows, tableRows}
+use Rattle.weighing.proofs.LinksBytes.{linksOf-next, linksOf-end}
+use Rattle.weighing.proofs.LinksRows.{Proper, Propers, first-accepted, first-refused, link-accepted, links-here, links-next}
+use Rattle.cutting.specs.declared.Thinned.{Thinned}
+use Rattle.cutting.specs.declared.Thinned.the-variants.{Kept, Refused as Refused·thinned}
+use Rattle.cutting.specs.Rows.{linkRow, thinningRows}
+use Rattle.cutting.specs.Calls.{settled, kept, linkBytes, over, keeping, Thins}
+use Rattle.cutting.specs.Thin.{Keeps}
+use Rattle.cutting.proofs.Alike.{Alike, label-alike}
+
+-- ---- a link as bytes
+
+four : (xs : List ℕ) → 4 ≤ length xs → take 4 xs ≡ getD xs 0 0 ∷ getD xs 1 0 ∷ getD xs 2 0 ∷ getD xs 3 0 ∷ []
+four [] h = absurd (omega arith)
+four (a ∷ []) h = absurd (omega arith)
+four (a ∷ b ∷ []) h = absurd (omega arith)
+four (a ∷ b ∷ c ∷ []) h = absurd (omega arith)
+four (a ∷ b ∷ c ∷ d ∷ rest) h = refl
+
+pub link-bytes : (bytes : List ℕ) (i : ℕ) → i * 4 + 4 ≤ length bytes → ((j : ℕ) → getD bytes j 0 < 256) → take 4 (drop (i * 4) bytes) ≡ linkBytes (linkAt bytes i ∷ [])
+unfolding linkBytes linkAt
+link-bytes bytes i h small =
+    let at : (j : ℕ) → getD (drop (i * 4) bytes) j 0 ≡ getD bytes (i * 4 + j) 0 = λ j. getD-drop (i * 4) bytes j 0 in
+    let high = getD bytes (i * 4 + 2) 0 in
+    let low = getD bytes (i * 4 + 3) 0 in
+    let x : getD (drop (i * 4) bytes) 0 0 ≡ getD bytes (i * 4) 0 = at 0 ∙ ap (λ (m : ℕ). getD bytes m 0) (add-zero (i * 4)) in
+    let z : getD (drop (i * 4) bytes) 2 0 ≡ (high * 256 + low) / 256 = omega (arith, at 2, small (i * 4 + 3)) in
+    let v : getD (drop (i * 4) bytes) 3 0 ≡ (high * 256 + low) % 256 = omega (arith, at 3, small (i * 4 + 3)) in
+    four (drop (i * 4) bytes) (simp length-drop (omega arith)) ∙ (λ k. x k ∷ at 1 k ∷ z k ∷ v k ∷ [])
+
+-- four bytes a link
+pub length-linkBytes : (ls : List Link) → length (linkBytes ls) ≡ length ls * 4
+unfolding linkBytes
+length-linkBytes [] = refl
+length-linkBytes (l ∷ ls) = omega (arith, length-linkBytes ls)
+
+-- ---- one link
+
+module _ (h : Heap) (l : Link) (bytes space : List ℕ) (count : ℕ) where
+  pub keeps-not : eqb (h (l .a)) (h (l .b)) ≡ false → Keeps h l bytes space count space count
+  keeps-not e =
+      record {
+        counted = sym (ap (λ (t : Bool). count + cond t 1 0) e ∙ add-zero count);
+        put = sym (ap (λ (t : Bool). cond t (paste space (count * 4) bytes 4) space) e);
+      }
+
+  pub keeps-it : (space′ : List ℕ) → eqb (h (l .a)) (h (l .b)) ≡ true → space′ ≡ paste space (count * 4) bytes 4 → Keeps h l bytes space count space′ (count + 1)
+  keeps-it space′ e p =
+      record {
+        counted = sym (ap (λ (t : Bool). count + cond t 1 0) e);
+        put = p ∙ sym (ap (λ (t : Bool). cond t (paste space (count * 4) bytes 4) space) e);
+      }
+
+-- ---- the links kept
+
+pub kept-it : (h : Heap) (l : Link) (ls : List Link) {rest : List Link} → rest ≡ l ∷ ls → eqb (h (l .a)) (h (l .b)) ≡ true → kept h rest ≡ l ∷ kept h ls
+unfolding kept
+kept-it h l ls r e = rw (r, e)
+
+pub kept-not : (h : Heap) (l : Link) (ls : List Link) {rest : List Link} → rest ≡ l ∷ ls → eqb (h (l .a)) (h (l .b)) ≡ false → kept h rest ≡ kept h ls
+unfolding kept
+kept-not h l ls r e = rw (r, e)
+
+-- names that agree on the links' ends keep the same links
+pub kept-same : (n : ℕ) (g h : Heap) (ls : List Link) → ((b : ℕ) → b < n → g b ≡ h b) → Propers n ls → kept g ls ≡ kept h ls
+unfolding kept Propers
+kept-same n g h [] e p = refl
+kept-same n g h (l ∷ ls) e p =
+    ap₂ (λ (t : Bool) (ks : List Link). cond t (l ∷ ks) ks)
+    (ap₂ eqb (e (l .a) (p .0 .first-end)) (e (l .b) (p .0 .second-end)))
+    (kept-same n g h ls e (p .1))
+
+one-link : (l : Link) (ls : List Link) → linkBytes (l ∷ ls) ≡ linkBytes (l ∷ []) ++ linkBytes ls
+unfolding linkBytes
+one-link l ls = refl
+
+-- ---- the whole run
+
+module _ (h : Heap) (links space₀ : List ℕ) where
+  -- of the links below i, so many are kept, at the front of the space
+  pub record Keeping (space : List ℕ) (count i : ℕ) : Type 0 where
+    pub place : i ≤ length links / 4
+    pub most : count ≤ i
+    pub bytes : linkBytes (kept h (linksOf links)) ≡ take (count * 4) space ++ linkBytes (kept h (linksOf (drop (i * 4) links)))
+    pub number : length (kept h (linksOf links)) ≡ count + length (kept h (linksOf (drop (i * 4) links)))
+    pub rest : drop (count * 4) space ≡ drop (count * 4) space₀
+    pub long : length space ≡ length space₀
+    pub proper : first (linksRows 128 i (linksOf (drop (i * 4) links))) ≡ Accepted
+
+  pub keeping-start : first (linksRows 128 0 (linksOf links)) ≡ Accepted → Keeping space₀ 0 0
+  keeping-start e =
+      record { place = zero-le; most = le-refl 0; bytes = refl; number = omega arith; rest = refl; long = refl; proper = e }
+
+  module _ (space : List ℕ) (count i : ℕ) (k : Keeping space count i) (l : i < length links / 4) where
+    next : linksOf (drop (i * 4) links) ≡ linkAt links i ∷ linksOf (drop ((i + 1) * 4) links)
+    next = linksOf-next links i l refl
+
+    accepted : first (linkRows 128 i (linkAt links i)) ≡ Accepted
+    accepted = links-here 128 i (linkAt links i) (linksOf (drop ((i + 1) * 4) links)) next (k .proper)
+
+    pub keeping-proper : Proper 128 (linkAt links i)
+    keeping-proper = link-accepted 128 i (linkAt links i) accepted
+
+    pub keeping-next : (space′ : List ℕ) (count′ : ℕ) → length links / 4 ≤ length space₀ / 4 → ((j : ℕ) → getD links j 0 < 256)
+        → Keeps h (linkAt links i) (take 4 (drop (i * 4) links)) space count space′ count′ → Keeping space′ count′ (i + 1)
+    keeping-next space′ count′ room small s = go (eqb (h (linkAt links i .a)) (h (linkAt links i .b))) refl
+      where
+        after : List Link
+        after = linksOf (drop ((i + 1) * 4) links)
+
+        onward : first (linksRows 128 (i + 1) after) ≡ Accepted
+        onward = sym (links-next 128 i (linkAt links i) after next accepted) ∙ k .proper
+
+        four-bytes : List ℕ
+        four-bytes = take 4 (drop (i * 4) links)
+
+        wide : 4 ≤ length four-bytes
+        wide = simp (length-take, length-drop) (omega arith)
+
+        fits : count * 4 + 4 ≤ length space
+        fits = omega (arith, k .most, k .long)
+
+        put-front : take (count * 4 + 4) (paste space (count * 4) four-bytes 4) ≡ take (count * 4) space ++ linkBytes (linkAt links i ∷ [])
+        put-front =
+            take-paste space (count * 4) four-bytes 4 (omega (arith, fits)) wide
+            ∙ ap (λ (x : List ℕ). take (count * 4) space ++ x)
+            (take-take 4 4 (drop (i * 4) links) (le-refl 4) ∙ link-bytes links i (omega arith) small)
+
+        put-rest : drop (count * 4 + 4) (paste space (count * 4) four-bytes 4) ≡ drop (count * 4 + 4) space₀
+        put-rest =
+            drop-paste space (count * 4) four-bytes 4 (omega (arith, fits)) wide
+            ∙ sym (drop-drop 4 (count * 4) space)
+            ∙ ap (drop 4) (k .rest)
+            ∙ drop-drop 4 (count * 4) space₀
+
+        go : (t : Bool) → eqb (h (linkAt links i .a)) (h (linkAt links i .b)) ≡ t → Keeping space′ count′ (i + 1)
+        go true e =
+            let counted : count′ ≡ count + 1 = s .counted ∙ ap (λ (t : Bool). count + cond t 1 0) e in
+            let put : space′ ≡ paste space (count * 4) four-bytes 4 = s .put ∙ ap (λ (t : Bool). cond t (paste space (count * 4) four-bytes 4) space) e in
+            let step : count′ * 4 ≡ count * 4 + 4 = omega (arith, counted) in
+            let more = kept-it h (linkAt links i) after next e in
+            record {
+              place = omega arith;
+              most = omega (arith, counted, k .most);
+              bytes = k .bytes
+                  ∙ ap (λ (ls : List Link). take (count * 4) space ++ linkBytes ls) more
+                  ∙ ap (λ (x : List ℕ). take (count * 4) space ++ x) (one-link (linkAt links i) (kept h after))
+                  ∙ sym (append-assoc (take (count * 4) space) (linkBytes (linkAt links i ∷ [])) (linkBytes (kept h after)))
+                  ∙ ap (λ (x : List ℕ). x ++ linkBytes (kept h after)) (sym (ap₂ take step put ∙ put-front));
+              number = omega (arith, k .number, counted, ap length more);
+              rest = ap₂ drop step put ∙ put-rest ∙ ap (λ (m : ℕ). drop m space₀) (sym step);
+              long = ap length put ∙ length-paste space (count * 4) four-bytes 4 fits wide ∙ k .long;
+              proper = onward;
+            }
+        go false e =
+            let counted : count′ ≡ count = s .counted ∙ ap (λ (t : Bool). count + cond t 1 0) e ∙ add-zero count in
+            let put : space′ ≡ space = s .put ∙ ap (λ (t : Bool). cond t (paste space (count * 4) four-bytes 4) space) e in
+            let same = kept-not h (linkAt links i) after next e in
+            record {
+              place = omega arith;
+              most = omega (arith, counted, k .most);
+              bytes = k .bytes ∙ ap₂ (λ (x : List ℕ) (ls : List Link). x ++ linkBytes ls) (sym (ap₂ (λ (m : ℕ) (x : List ℕ). take (m * 4) x) counted put)) same;
+              number = omega (arith, k .number, counted, ap length same);
+              rest = ap₂ (λ (m : ℕ) (x : List ℕ). drop (m * 4) x) counted put ∙ k .rest ∙ ap (λ (m : ℕ). drop (m * 4) space₀) (sym counted);
+              long = ap length put ∙ k .long;
+              proper = onward;
+            }
+
+  -- behind the last link
+  pub keeping-end : (space : List ℕ) (count i : ℕ) → Keeping space count i → length links / 4 ≤ i
+      → (count ≡ length (kept h (linksOf links))) × (space ≡ over (linkBytes (kept h (linksOf links))) space₀)
+  unfolding kept linkBytes over
+  keeping-end space count i k l =
+      let none = linksOf-end links i l in
+      let number : length (kept h (linksOf links)) ≡ count = omega (arith, k .number, ap (λ (ls : List Link). length (kept h ls)) none) in
+      let bytes : linkBytes (kept h (linksOf links)) ≡ take (count * 4) space = k .bytes ∙ ap (λ (ls : List Link). take (count * 4) space ++ linkBytes (kept h ls)) none ∙ append-nil (take (count * 4) space) in
+      let long : length (linkBytes (kept h (linksOf links))) ≡ count * 4 = length-linkBytes (kept h (linksOf links)) ∙ ap (λ (m : ℕ). m * 4) number in (
+        sym number,
+        sym (take-append-drop (count * 4) space) ∙ ap₂ _++_ (sym bytes) (k .rest ∙ ap (λ (m : ℕ). drop m space₀) (sym long)),
+      )
+
+-- ---- thinning's promise
+
+pub kept-most : (h : Heap) (ls : List Link) → length (kept h ls) ≤ length ls
+unfolding kept
+kept-most h [] = le-refl 0
+kept-most h (l ∷ ls) = go (eqb (h (l .a)) (h (l .b))) (kept-most h ls)
+  where
+    go : (t : Bool) → length (kept h ls) ≤ length ls → length (cond t (l ∷ kept h ls) (kept h ls)) ≤ suc (length ls)
+    go true m = omega arith
+    go false m = omega arith
+
+module _ (links room : ℕ) where
+  pub links-short : room < links → first (linkRow links room ∷ []) ≡ Refused 14 0
+  unfolding linkRow refuse first
+  links-short l = rw (lt-ltb room links l)
+
+  pub links-fit : links ≤ room → first (linkRow links room ∷ []) ≡ Accepted
+  unfolding linkRow refuse first
+  links-fit l = rw (le-ltb room links l)
+
+module _ (rows : List Judged) (n : ℕ) (w : Tally) (k : ℕ) (links : List Link) (space : List ℕ) where
+  pub thins-refused : (number place : ℕ) → first rows ≡ Refused number place → Thins rows n w k links space space (Refused·thinned number place)
+  unfolding keeping settled
+  thins-refused number place e =
+      record {
+        answer = ap (λ (j : Judged). keeping j (length (kept (label n w k) links))) (sym e);
+        links-left = ap (λ (j : Judged). settled j space (over (linkBytes (kept (label n w k) links)) space)) (sym e);
+      }
+
+  pub thins-accepted : (h : Heap) (space′ : List ℕ) (count : ℕ) → first rows ≡ Accepted → kept h links ≡ kept (label n w k) links → count ≡ length (kept h links) → space′ ≡ over (linkBytes (kept h links)) space → Thins rows n w k links space space′ (Kept count)
+  unfolding keeping settled
+  thins-accepted h space′ count e same q p =
+      record {
+        answer = ap Kept (q ∙ ap length same) ∙ ap (λ (j : Judged). keeping j (length (kept (label n w k) links))) (sym e);
+        links-left = p
+            ∙ ap (λ (ls : List Link). over (linkBytes ls) space) same
+            ∙ ap (λ (j : Judged). settled j space (over (linkBytes (kept (label n w k) links)) space)) (sym e);
+      }
+
+pub thins-alike : (n : ℕ) (v w : Tally) → Alike n v w → (k : ℕ) (rows rows′ : List Judged) (links : List Link) (space space′ : List ℕ) (r : Thinned) → first rows ≡ first rows′ → Thins rows n v k links space space′ r → Thins rows′ n w k links space space′ r
+thins-alike n v w alike k rows rows′ links space space′ r e t =
+    record {
+      answer = t .answer ∙ ap₂ (λ (j : Judged) (h : Heap). keeping j (length (kept h links))) e (label-alike n v w alike k);
+      links-left = t .links-left ∙ ap₂ (λ (j : Judged) (h : Heap). settled j space (over (linkBytes (kept h links)) space)) e (label-alike n v w alike k);
+    }
+
+module _ (n k : ℕ) (good : Bool) (links : List Link) (room : ℕ) where
+  pub thinning-core : first (tableRows n k good links) ≡ Accepted → first (linkRow (length links) room ∷ []) ≡ first (thinningRows n k good links room)
+  unfolding thinningRows
+  thinning-core accepted = sym (first-accepted (tableRows n k good links) (linkRow (length links) room ∷ []) accepted)
+
+  pub thinning-stop : (number place : ℕ) → first (tableRows n k good links) ≡ Refused number place → first (thinningRows n k good links room) ≡ Refused number place
+  unfolding thinningRows
+  thinning-stop number place e = first-refused (tableRows n k good links) (linkRow (length links) room ∷ []) number place e

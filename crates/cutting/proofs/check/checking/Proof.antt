@@ -1,0 +1,52 @@
+-- `cutting::check::checking` meets its contract. Assumes nothing.
+use mathlib.Core.Path.{sym, _∙_}
+use native.Mathlib.Omega.{arith}
+use lib.ListN.{length}
+use Rattle.weighing.proofs.LinksBytes.{linksOf-short}
+use Rattle.cutting.proofs.Carried.{filled-counted, filled-alike, checking-core, checking-stop, checked-alike, checked-refused}
+use borrow.Author.Needs.{needs}
+use Rattle.cutting.proofs.check.checking.Statement.{statement}
+use Rattle.cutting.proofs.check.checking.Tie as tie
+
+fill-requires : tie.Need-fill-requires
+fill-requires c κs = search needs
+
+enum-told : tie.Need-enum-told
+enum-told c = search needs
+
+check-table-requires : tie.Need-check-table-requires
+check-table-requires c κs =
+    let counted = filled-counted _ _ _ _ _ (c .before .before .before .before .fill .ensures .0) (c .before .before .enum-told .given .1) in
+    (counted .some-bones, counted .few-bones)
+
+enum-known-number : tie.Need-enum-known-number
+enum-known-number c = search needs
+
+same-length : tie.Need-same-length
+same-length c = search needs
+
+returns : tie.Need-returns
+returns c =
+    let a = c .before .before .before .before .before .before .before .before .before .before .before .before .args in
+    let accepted = c .before .before .before .before .before .enum-told .given .1 in
+    let judged = c .before .before .before .before .before .before .before .fill .ensures .0 in
+    let short = linksOf-short (a .links .now) (λ i. omega (arith, c .before .before .before .before .before .before .before .before .before .before .before .shared-slice-known .given i)) in
+    let alike = filled-alike (a .n) (a .k) _ _ _ judged accepted _ (c .before .before .before .before .before .before .before .fill .ensures .1) short in
+    checked-alike (a .n) _ _ alike (a .k) _ _ _ _ _ _ (checking-core (a .n) (a .k) _ _ (a .«record» .now) (length (a .labels .now)) _ alike (sym judged ∙ accepted)) (c .before .before .check-table .ensures)
+
+returns-2 : tie.Need-returns-2
+returns-2 c =
+    let a = c .before .before .before .before .before .before .before .before .args in
+    checked-refused _ _ _ _ _ _ _ _ (checking-stop (a .n) (a .k) _ _ (a .«record» .now) (length (a .labels .now)) _ _ (sym (c .before .before .before .fill .ensures .0) ∙ c .before .number .given .1))
+
+pub checking-spec : {M : Type 1} → statement M
+checking-spec =
+    tie.close
+    (tie.spec
+    fill-requires
+    enum-told
+    check-table-requires
+    enum-known-number
+    same-length
+    returns
+    returns-2)

@@ -1,0 +1,33 @@
+-- `cutting::check::tell_piles` meets its contract. Assumes nothing.
+use mathlib.Core.Path.{ap₂}
+use Rattle.weighing.specs.Side.{heapOf}
+use Rattle.weighing.specs.Table.{held}
+use Rattle.cutting.specs.declared.Answer.the-variants.{Gave}
+use Rattle.cutting.proofs.Finish.{searched-finished}
+use borrow.Author.Needs.{needs}
+use Rattle.cutting.proofs.check.tell_piles.Statement.{statement}
+use Rattle.cutting.proofs.check.tell_piles.Tie as tie
+
+search-requires : tie.Need-search-requires
+search-requires c κs = search needs
+
+write-names-requires : tie.Need-write-names-requires
+write-names-requires c κs = search needs
+
+count-piles-requires : tie.Need-count-piles-requires
+count-piles-requires c κs = search needs
+
+same-length : tie.Need-same-length
+same-length c = search needs
+
+returns : tie.Need-returns
+returns c =
+    let a = c .before .before .before .before .before .before .before .args in (
+      ap₂ Gave (c .count-piles .ensures) (searched-finished (a .n) (held (a .table .now)) (a .k) (heapOf (a .names .now)) _ _ (c .before .before .before .before .before .before .before .pre .0) (c .before .before .before .before .before .search .ensures)),
+      c .before .before .before .write-names .ensures,
+    )
+
+pub tell-piles-spec : {M : Type 1} → statement M
+tell-piles-spec =
+    tie.close
+    (tie.spec search-requires write-names-requires count-piles-requires same-length returns)

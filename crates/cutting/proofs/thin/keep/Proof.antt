@@ -1,0 +1,56 @@
+-- `cutting::thin::keep` meets its contract. The invariant: of the links below i, those kept stand at the front of the space. Assumes nothing.
+use Prim.Native.Nat.{_/_, _-_}
+use native.Mathlib.Omega.{arith}
+use lib.ListN.{length}
+use Rattle.weighing.specs.Side.{heapOf}
+use Rattle.cutting.proofs.Keeping.{Keeping, keeping-start, keeping-proper, keeping-next, keeping-end}
+use Rattle.cutting.proofs.thin.keep.Statement.{statement}
+use Rattle.cutting.proofs.thin.keep.Tie as tie
+
+abbrev Inv-loop : tie.InvT-loop
+Inv-loop names links space₀ count kept₀ i₀ space kept i = Keeping (heapOf names) links space₀ space kept i
+
+abbrev μ-loop : tie.MeasureT-loop
+μ-loop names links space₀ count kept₀ i₀ space kept i = length links / 4 - i
+
+loop-holds : tie.Need-loop-holds Inv-loop μ-loop
+loop-holds c = keeping-start _ _ _ (c .before .before .pre .0)
+
+keep-link-requires : tie.Need-keep-link-requires Inv-loop μ-loop
+keep-link-requires c κs =
+    let s = c .before .before .before .before .before in
+    let head = c .before .before .loop in
+    let proper = keeping-proper _ _ _ _ _ _ (head .inv) (omega arith) in
+    ((omega arith, proper .first-end, proper .second-end), omega (arith, head .inv .most, head .inv .long, s .pre .1))
+
+add-i : tie.Need-add-i Inv-loop μ-loop
+add-i c = omega arith
+
+loop-less : tie.Need-loop-less Inv-loop μ-loop
+loop-less c = omega arith
+
+loop-again : tie.Need-loop-again Inv-loop μ-loop
+loop-again c =
+    let s = c .before .before .before .before .before .before .before .before in
+    let head = c .before .before .before .before .before .loop in
+    keeping-next _ _ _ _ _ _ (head .inv) (omega arith) _ _ (s .pre .1) (λ j. omega (arith, c .before .before .before .before .before .before .before .shared-slice-known .given j)) (c .before .before .keep-link .ensures)
+
+same-length : tie.Need-same-length Inv-loop μ-loop
+same-length c = omega (arith, c .before .loop .inv .long)
+
+returns : tie.Need-returns Inv-loop μ-loop
+returns c = let e = keeping-end _ _ _ _ _ _ (c .before .loop .inv) (omega arith) in (e .0, e .1)
+
+pub keep-spec : {M : Type 1} → statement M
+keep-spec =
+    tie.close
+    (tie.spec
+    Inv-loop
+    μ-loop
+    loop-holds
+    keep-link-requires
+    add-i
+    loop-less
+    loop-again
+    same-length
+    returns)

@@ -1,0 +1,47 @@
+-- `cutting::thin::thin_table` meets its contract. Assumes nothing.
+use mathlib.Core.Path.{refl}
+use native.Mathlib.Omega.{arith}
+use Rattle.weighing.specs.Links.{linksOf}
+use Rattle.weighing.specs.Side.{heapOf}
+use Rattle.weighing.proofs.LinksBytes.{length-linksOf}
+use Rattle.weighing.proofs.LinksRows.{links-accepted, links-proper, propers-more}
+use Rattle.cutting.proofs.Parting.{heap-start}
+use Rattle.cutting.proofs.Keeping.{kept-same, kept-most, links-short, links-fit, thins-refused, thins-accepted}
+use borrow.Author.Needs.{needs}
+use Rattle.cutting.proofs.thin.thin_table.Statement.{statement}
+use Rattle.cutting.proofs.thin.thin_table.Tie as tie
+
+returns : tie.Need-returns
+returns c =
+    let a = c .before .before .before .args in
+    thins-refused _ _ _ _ _ _ 14 0 (links-short _ _ (omega (arith, c .if1 .taken, length-linksOf (a .links .now))))
+
+name-groups-requires : tie.Need-name-groups-requires
+name-groups-requires c κs = let p = c .before .before .before .before .pre in (p .0, p .1, p .2, heap-start 128, refl)
+
+keep-requires : tie.Need-keep-requires
+keep-requires c κs =
+    let s = c .before .before .before .before .before .before .before in
+    let links = linksOf (s .args .links .now) in
+    (links-proper 128 0 links (propers-more (s .args .n) 128 links (s .pre .1) (links-accepted (s .args .n) 0 links (s .pre .4))), c .before .before .before .before .if1 .left)
+
+cast-t17 : tie.Need-cast-t17
+cast-t17 c =
+    let s = c .before .before .before .before .before .before .before .before .before .before in
+    omega (arith, c .before .before .keep .ensures .0, kept-most (heapOf (c .before .before .before .before .before .name-groups .last .1 .1 .1 .0)) (linksOf (s .args .links .now)), length-linksOf (s .args .links .now), s .pre .3)
+
+same-length : tie.Need-same-length
+same-length c = search needs
+
+returns-2 : tie.Need-returns-2
+returns-2 c =
+    let s = c .before .before .before .before .before .before .before .before .before .before in
+    let links = linksOf (s .args .links .now) in
+    thins-accepted _ _ _ _ _ _ (heapOf (c .before .before .before .before .before .name-groups .last .1 .1 .1 .0)) _ _
+    (links-fit _ _ (omega (arith, c .before .before .before .before .before .before .before .if1 .left, length-linksOf (s .args .links .now))))
+    (kept-same (s .args .n) _ _ links (c .before .before .before .before .before .name-groups .ensures) (links-accepted (s .args .n) 0 links (s .pre .4)))
+    (c .before .before .keep .ensures .0) (c .before .before .keep .ensures .1)
+
+pub thin-table-spec : {M : Type 1} → statement M
+thin-table-spec =
+    tie.close (tie.spec returns name-groups-requires keep-requires cast-t17 same-length returns-2)

@@ -1,0 +1,59 @@
+-- `cutting::thin::thinning` meets its contract. Assumes nothing.
+use Prim.Native.Nat.{_/_}
+use mathlib.Core.Path.{sym, _∙_}
+use native.Mathlib.Omega.{arith}
+use lib.ListN.{length}
+use Rattle.weighing.specs.Links.{linksOf}
+use Rattle.weighing.proofs.LinksBytes.{length-linksOf, linksOf-short}
+use Rattle.weighing.proofs.LinksRows.{table-counted, table-proper, links-proper}
+use Rattle.cutting.proofs.Carried.{filled-alike}
+use Rattle.cutting.proofs.Keeping.{thinning-core, thinning-stop, thins-alike, thins-refused}
+use borrow.Author.Needs.{needs}
+use Rattle.cutting.proofs.thin.thinning.Statement.{statement}
+use Rattle.cutting.proofs.thin.thinning.Tie as tie
+
+fill-requires : tie.Need-fill-requires
+fill-requires c κs = search needs
+
+enum-told : tie.Need-enum-told
+enum-told c = search needs
+
+thin-table-requires : tie.Need-thin-table-requires
+thin-table-requires c κs =
+    let a = c .before .before .before .before .before .before .before .before .args in
+    let links = linksOf (a .links .now) in
+    let accepted = sym (c .before .before .before .before .fill .ensures .0) ∙ c .before .before .enum-told .given .1 in
+    let counted = table-counted (a .n) (a .k) _ links accepted in
+    (counted .some-bones, counted .few-bones, counted .low-threshold, omega (arith, counted .few-links, length-linksOf (a .links .now)), links-proper (a .n) 0 links (table-proper (a .n) (a .k) _ links accepted))
+
+enum-known-number : tie.Need-enum-known-number
+enum-known-number c = search needs
+
+same-length : tie.Need-same-length
+same-length c = search needs
+
+returns : tie.Need-returns
+returns c =
+    let a = c .before .before .before .before .before .before .before .before .before .before .before .args in
+    let accepted = c .before .before .before .before .before .enum-told .given .1 in
+    let judged = c .before .before .before .before .before .before .before .fill .ensures .0 in
+    let short = linksOf-short (a .links .now) (λ i. omega (arith, c .before .before .before .before .before .before .before .before .before .before .shared-slice-known .given i)) in
+    let alike = filled-alike (a .n) (a .k) _ _ _ judged accepted _ (c .before .before .before .before .before .before .before .fill .ensures .1) short in
+    thins-alike (a .n) _ _ alike (a .k) _ _ _ _ _ _ (thinning-core (a .n) (a .k) _ _ (length (a .space .now) / 4) (sym judged ∙ accepted)) (c .before .before .thin-table .ensures)
+
+returns-2 : tie.Need-returns-2
+returns-2 c =
+    let a = c .before .before .before .before .before .before .before .args in
+    thins-refused _ _ _ _ _ _ _ _ (thinning-stop (a .n) (a .k) _ _ (length (a .space .now) / 4) _ _ (sym (c .before .before .before .fill .ensures .0) ∙ c .before .number .given .1))
+
+pub thinning-spec : {M : Type 1} → statement M
+thinning-spec =
+    tie.close
+    (tie.spec
+    fill-requires
+    enum-told
+    thin-table-requires
+    enum-known-number
+    same-length
+    returns
+    returns-2)

@@ -1,0 +1,75 @@
+// Checking: a record is judged, and the piles that it leaves are told. The part above the filled table serves every form of links.
+use crate::Answer;
+use crate::heap::count_piles;
+use crate::heap::write_names;
+use crate::judging::judge_record;
+use meaning::Judged;
+use weighing::fill;
+use weighing::search::search;
+ghost use mathlib.Core.Path.{_≡_};
+ghost use mathlib.Core.List.{_∷_};
+ghost use Prim.Native.Nat.{_≤_, _<_};
+ghost use lib.ListN.{length};
+ghost use Rattle.meaning.specs.Heap.{piles, finished as finishedRun};
+ghost use Rattle.weighing.specs.Links.{whole, linksOf};
+ghost use Rattle.weighing.specs.Side.{heapOf};
+ghost use Rattle.weighing.specs.Table.{held};
+ghost use Rattle.cutting.specs.Rows.{labelRow, recordRows};
+ghost use Rattle.cutting.specs.Calls.{written, Checked, Checking};
+
+// The names are written; their piles are counted; and they are searched, which tells whether the run that left them is finished.
+fn tell_piles(
+    table: &[u32; 16384],
+    n: usize,
+    k: u64,
+    names: &[u8; 128],
+    labels: &mut [u8],
+) -> Answer
+    requires { ⌜ (n ≤ 128) × (n ≤ length (now labels)) ⌝ }
+    ensures { λ r. ⌜ r ≡ Answer.Gave (piles n (heapOf (now (names .entry)))) (finishedRun n (held (now (table .entry))) k (heapOf (now (names .entry)))) ⌝ }
+    ensures { λ _. ⌜ now (labels .exit) ≡ written n (heapOf (now (names .entry))) (now (labels .entry)) ⌝ }
+{
+    let split = search(table, names, n, k, 0);
+    let light = split.light;
+    write_names(names, n, labels);
+    Answer::Gave {
+        count: count_piles(names, n),
+        finished: !light,
+    }
+}
+
+// Checking above the filled table: rows 7 and 9 to 13, and then the piles.
+pub(crate) fn check_table(
+    table: &[u32; 16384],
+    n: usize,
+    k: u64,
+    entries: &[u8],
+    labels: &mut [u8],
+) -> Answer
+    requires { ⌜ (0 < n) × (n ≤ 128) ⌝ }
+    ensures { λ r. ⌜ Checked (labelRow n (length (now (labels .entry))) ∷ recordRows n (held (now (table .entry))) k (now (entries .entry))) n (held (now (table .entry))) k (now (entries .entry)) (now (labels .entry)) (now (labels .exit)) r ⌝ }
+{
+    if labels.len() < n {
+        return Answer::Refused {
+            number: 7,
+            place: 0,
+        };
+    }
+    let mut names = [0u8; 128];
+    match judge_record(table, n, k, entries, &mut names) {
+        Judged::Accepted => tell_piles(table, n, k, &names, labels),
+        Judged::Refused { number, place } => Answer::Refused { number, place },
+    }
+}
+
+// Checks a record: gives the number of piles that it leaves and whether it is finished, and writes each bone's pile name to the label
+// space; or the first refusal, which leaves the label space as it was. Links are lent as bytes, four a link.
+pub fn checking(n: u64, k: u64, links: &[u8], record: &[u8], labels: &mut [u8]) -> Answer
+    ensures { λ r. ⌜ Checking n k (whole (now (links .entry))) (linksOf (now (links .entry))) (now («record» .entry)) (now (labels .entry)) (now (labels .exit)) r ⌝ }
+{
+    let mut table = [0u32; 16384];
+    match fill(n, k, links, &mut table) {
+        Judged::Accepted => check_table(&table, n as usize, k, record, labels),
+        Judged::Refused { number, place } => Answer::Refused { number, place },
+    }
+}

@@ -1,0 +1,76 @@
+// A heap as names: each bone's pile name, the pile's least bone. Bones from n on have names that nothing looks at.
+use crate::record::Entry;
+use weighing::in_side;
+ghost use mathlib.Core.Path.{_≡_};
+ghost use mathlib.Core.Bool.{cond};
+ghost use Prim.Native.Nat.{_≤_};
+ghost use lib.Dec.{eqb};
+ghost use lib.ListN.{length};
+ghost use Rattle.meaning.specs.Count.{least};
+ghost use Rattle.meaning.specs.Heap.{parted, piles};
+ghost use Rattle.weighing.specs.Side.{heapOf, sideOf};
+ghost use Rattle.cutting.specs.Record.{cutOf};
+ghost use Rattle.cutting.specs.Calls.{written};
+
+// The least bone on a side, n where none of the first n is.
+fn least_of(side: &[u8; 16], n: usize) -> u8
+    requires { ⌜ n ≤ 128 ⌝ }
+    ensures { λ r. ⌜ r ≡ least n (sideOf (now (side .entry))) ⌝ }
+{
+    let mut b = 0;
+    while b < n {
+        if in_side(side, b) {
+            return b as u8;
+        }
+        b += 1;
+    }
+    n as u8
+}
+
+fn renamed(moved: bool, new: u8, old: u8) -> u8
+    ensures { λ r. ⌜ r ≡ cond moved new old ⌝ }
+{
+    if moved { new } else { old }
+}
+
+// The heap is parted: the bones that an entry moves become a pile under their own least bone.
+pub(crate) fn part(names: &mut [u8; 128], n: usize, entry: Entry)
+    requires { ⌜ (n ≤ 128) × (length (now names) ≡ 128) ⌝ }
+    ensures { λ _. ⌜ heapOf (now (names .exit)) ≡ parted n (heapOf (now (names .entry))) (cutOf entry) ⌝ }
+    ensures { λ _. ⌜ length (now (names .exit)) ≡ 128 ⌝ }
+{
+    let side = entry.side;
+    let name = least_of(&side, n);
+    for b in 0..128 {
+        names[b] = renamed(in_side(&side, b), name, names[b]);
+    }
+}
+
+// The names of bones 0 to n − 1 go to the label space.
+pub(crate) fn write_names(names: &[u8; 128], n: usize, labels: &mut [u8])
+    requires { ⌜ (n ≤ 128) × (n ≤ length (now labels)) ⌝ }
+    ensures { λ _. ⌜ now (labels .exit) ≡ written n (heapOf (now (names .entry))) (now (labels .entry)) ⌝ }
+{
+    for b in 0..n {
+        labels[b] = names[b];
+    }
+}
+
+// One where a bone's name is its own: it heads its pile.
+fn heads(name: u8, b: usize) -> u32
+    ensures { λ r. ⌜ r ≡ cond (eqb name b) 1 0 ⌝ }
+{
+    if name as usize == b { 1 } else { 0 }
+}
+
+// The number of piles.
+pub(crate) fn count_piles(names: &[u8; 128], n: usize) -> u32
+    requires { ⌜ n ≤ 128 ⌝ }
+    ensures { λ r. ⌜ r ≡ piles n (heapOf (now (names .entry))) ⌝ }
+{
+    let mut count = 0;
+    for b in 0..n {
+        count += heads(names[b], b);
+    }
+    count
+}

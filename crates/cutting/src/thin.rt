@@ -1,0 +1,107 @@
+// Thinning: the links whose ends share a group stay.
+use crate::Thinned;
+use crate::group::finish;
+use crate::record::Record;
+use crate::record::copy;
+use meaning::Judged;
+use weighing::fill;
+ghost use mathlib.Core.Path.{_≡_};
+ghost use mathlib.Core.Bool.{cond};
+ghost use mathlib.Core.List.{[], _∷_};
+ghost use Prim.Native.Nat.{ℕ, _+_, _*_, _/_, _≤_, _<_};
+ghost use lib.Dec.{eqb};
+ghost use lib.ListN.{length, take, drop};
+ghost use lib.Seq.{paste};
+ghost use Rattle.meaning.specs.declared.Judged.the-variants.{Accepted};
+ghost use Rattle.meaning.specs.Judge.{first};
+ghost use Rattle.meaning.specs.Firm.{label};
+ghost use Rattle.meaning.specs.Heap.{start};
+ghost use Rattle.weighing.specs.Links.{whole, linksOf, linkAt, linksRows};
+ghost use Rattle.weighing.specs.Side.{heapOf};
+ghost use Rattle.weighing.specs.Table.{held};
+ghost use Rattle.cutting.specs.Rows.{linkRow};
+ghost use Rattle.cutting.specs.Thin.{Keeps};
+ghost use Rattle.cutting.specs.Calls.{kept as keptLinks, linkBytes, over, Thins, Thinning};
+
+// Whether two bones bear one name.
+fn same_pile(names: &[u8; 128], a: u8, b: u8) -> bool
+    requires { ⌜ (a < 128) × (b < 128) ⌝ }
+    ensures { λ r. ⌜ r ≡ eqb (heapOf (now (names .entry)) a) (heapOf (now (names .entry)) b) ⌝ }
+{
+    names[a as usize] == names[b as usize]
+}
+
+// The link in place i is put behind the links that were kept so far, where its ends bear one name.
+fn keep_link(names: &[u8; 128], links: &[u8], i: usize, space: &mut [u8], kept: usize) -> usize
+    requires { ⌜ (i * 4 + 4 ≤ length (now links)) × (linkAt (now links) i .a < 128) × (linkAt (now links) i .b < 128) ⌝ }
+    requires { ⌜ kept * 4 + 4 ≤ length (now space) ⌝ }
+    ensures { λ r. ⌜ Keeps (heapOf (now (names .entry))) (linkAt (now (links .entry)) i) (take 4 (drop (i * 4) (now (links .entry)))) (now (space .entry)) kept (now (space .exit)) r ⌝ }
+{
+    let at = i * 4;
+    if !same_pile(names, links[at], links[at + 1]) {
+        return kept;
+    }
+    copy(&links[at..at + 4], space, kept * 4);
+    kept + 1
+}
+
+// The links whose ends bear one name go to the front of the link space, in order.
+fn keep(names: &[u8; 128], links: &[u8], space: &mut [u8]) -> usize
+    requires { ⌜ (first (linksRows 128 0 (linksOf (now links))) ≡ Accepted) × (length (now links) / 4 ≤ length (now space) / 4) ⌝ }
+    ensures { λ r. ⌜ r ≡ length (keptLinks (heapOf (now (names .entry))) (linksOf (now (links .entry)))) ⌝ }
+    ensures { λ _. ⌜ now (space .exit) ≡ over (linkBytes (keptLinks (heapOf (now (names .entry))) (linksOf (now (links .entry))))) (now (space .entry)) ⌝ }
+{
+    let count = links.len() / 4;
+    let mut kept = 0;
+    let mut i = 0;
+    while i < count {
+        kept = keep_link(names, links, i, space, kept);
+        i += 1;
+    }
+    kept
+}
+
+// The names of one pile of all bones become the labels: cuts are made from the empty record until every pile is firm.
+fn name_groups(table: &[u32; 16384], n: usize, k: u64, names: &mut [u8; 128])
+    requires { ⌜ (0 < n) × (n ≤ 128) × (k ≤ 65535) × (heapOf (now names) ≡ start) × (length (now names) ≡ 128) ⌝ }
+    ensures { λ _. ⌜ ((b : ℕ) → b < n → heapOf (now (names .exit)) b ≡ label n (held (now (table .entry))) k b) ⌝ }
+{
+    let mut entries = [0u8; 127 * Record::ENTRY];
+    finish(table, n, k, names, &mut entries, Record::empty());
+}
+
+// Thinning above the filled table: row 14, and then the links that stay.
+pub(crate) fn thin_table(
+    table: &[u32; 16384],
+    n: usize,
+    k: u64,
+    links: &[u8],
+    space: &mut [u8],
+) -> Thinned
+    requires { ⌜ (0 < n) × (n ≤ 128) × (k ≤ 65535) × (length (now links) / 4 ≤ 4096) × (first (linksRows n 0 (linksOf (now links))) ≡ Accepted) ⌝ }
+    ensures { λ r. ⌜ Thins (linkRow (length (linksOf (now (links .entry)))) (length (now (space .entry)) / 4) ∷ []) n (held (now (table .entry))) k (linksOf (now (links .entry))) (now (space .entry)) (now (space .exit)) r ⌝ }
+{
+    if space.len() / 4 < links.len() / 4 {
+        return Thinned::Refused {
+            number: 14,
+            place: 0,
+        };
+    }
+    let mut names = [0u8; 128];
+    name_groups(table, n, k, &mut names);
+    Thinned::Kept {
+        count: keep(&names, links, space) as u32,
+    }
+}
+
+// Thins the links: gives the number of links whose ends share a group, and writes them in order to the front of the link space; or gives
+// the first refusal, which leaves the link space as it was. Links are lent as bytes, four a link, and the room counts in whole links.
+pub fn thinning(n: u64, k: u64, links: &[u8], space: &mut [u8]) -> Thinned
+    ensures { λ r. ⌜ Thinning n k (whole (now (links .entry))) (linksOf (now (links .entry))) (now (space .entry)) (now (space .exit)) r ⌝ }
+{
+    let mut table = [0u32; 16384];
+    match fill(n, k, links, &mut table) {
+        Judged::Accepted => thin_table(&table, n as usize, k, links, space),
+        Judged::Refused { number, place } => Thinned::Refused { number, place },
+    }
+}

@@ -1,0 +1,27 @@
+-- The laws about frames and lines, about reading and writing them, and the theorems about texts.
+pub mod Frames
+pub mod Lines
+pub mod Stages
+pub mod Walks
+pub mod Judging
+pub mod ReadsText
+pub mod Advances
+pub mod ReadsRows
+pub mod ReadsStore
+pub mod ReadsPut
+pub mod ReadsAll
+pub mod ReadsRow
+pub mod Writes
+pub mod WritesLines
+pub mod WritesTexts
+pub mod WritesRows
+pub mod WritesLinks
+pub mod WritesRecord
+pub mod WritesLent
+pub mod WritesAnswer
+pub mod WritesInput
+pub mod RoundTripLines
+pub mod RoundTripWritten
+pub mod RoundTripRead
+pub mod RoundTripCalls
+pub mod Texts

@@ -1,0 +1,186 @@
+-- The round trips over the promises of the reader and the input writer.
+-- Assumes nothing.
+use Prim.Native.Nat.{ℕ, zero, suc, _+_, _*_, _-_, _/_, _%_, _≤_, _<_}
+use mathlib.Core.Path.{_≡_, refl, sym, _∙_, ap, ap₂, subst}
+use mathlib.Core.Bool.{Bool, true, false, not, _||_}
+use mathlib.Core.List.{List, [], _∷_, _++_}
+use native.Mathlib.Omega.{arith}
+use borrow.Author.Tests.{le-ltb, ltb-false, eqb-true, not-false}
+use lib.Dec.{T, eqb, ltb, nltb→le, eqb→eq}
+use lib.ListN.{length, take, drop, length-append}
+use lib.Seq.{take-append-seam, take-at}
+use Rattle.meaning.specs.declared.Link.{Link}
+use Rattle.meaning.specs.declared.Judged.{Judged}
+use Rattle.meaning.specs.declared.Judged.the-variants.{Accepted, Refused}
+use Rattle.meaning.specs.Judge.{refuse, first}
+use Rattle.meaning.proofs.Tests.{fails, decide, taut, so, _⊃_}
+use Rattle.weighing.specs.Links.{countRows, linksRows, tableRows}
+use Rattle.weighing.proofs.LinksRows.{first-accepted, accepted-left, accepted-right, Counted, counts-accepted}
+use Rattle.cutting.specs.Record.{entrySize}
+use Rattle.cutting.specs.Rows.{recordRow}
+use Rattle.texts.specs.declared.Reading.{Reading}
+use Rattle.texts.specs.declared.Reading.the-variants.{Got}
+use Rattle.texts.specs.declared.Written.{Written}
+use Rattle.texts.specs.declared.Written.the-variants.{Bytes as Wrote}
+use Rattle.texts.specs.Lines.{Line, linesOf, opening, lineRows}
+use Rattle.texts.specs.Reader.{linksIn, entriesIn, bonesIn, thresholdIn, readerRows, read, put, Reads}
+use Rattle.texts.specs.Writers.{inputText, inputRows, unnoted, wrote, Writes}
+use Rattle.texts.proofs.Frames.{Bytes}
+use Rattle.texts.proofs.WritesTexts.{length-input}
+use Rattle.texts.proofs.RoundTripLines.{passes}
+use Rattle.texts.proofs.RoundTripWritten.{Smalls, Written as Fits, rows-passed, bones-back, threshold-back, links-back, entries-back}
+use Rattle.texts.proofs.RoundTripRead.{row-accepted, entries-whole, text-back}
+
+-- a number that is not over a bound passes the row that refuses those over it
+within : (a b : ℕ) → b ≤ a → T (not (ltb a b))
+within a b h = fails (le-ltb a b h)
+
+-- what the input writer accepts fits its frames, and the numbers that the reader allows
+record Accepts (n k : ℕ) (links : List Link) (bytes : List ℕ) (room : ℕ) : Type 0 where
+  fits : Fits n k links bytes
+  few-links : length links ≤ 4096
+  few-entries : length bytes ≤ entrySize * 127
+  space : length (inputText n k links bytes) ≤ room
+
+accepts : (n k : ℕ) (links : List Link) (bytes : List ℕ) (room : ℕ) → Smalls links → Bytes bytes → first (inputRows n k links bytes room) ≡ Accepted
+    → Accepts n k links bytes room
+unfolding inputRows tableRows recordRow
+accepts n k links bytes room s f e =
+    let c = counts-accepted n k true (length links) (accepted-left (countRows n k true (length links)) (linksRows n 0 links) (accepted-left (tableRows n k true links) _ e)) in
+    let nine = row-accepted _ 9 0 _ (accepted-right (tableRows n k true links) _ e) in
+    let twenty = row-accepted _ 20 0 [] (nine .1) in
+    let whole = eqb→eq (length bytes % entrySize) 0 (taut 2 (λ a b. not (not a || b) ⊃ so a) tt (eqb (length bytes % entrySize) 0) (ltb (n - 1) (length bytes / entrySize)) (nine .0)) in
+    let few = nltb→le (n - 1) (length bytes / entrySize)
+    (taut 2 (λ a b. not (not a || b) ⊃ so (not b)) tt (eqb (length bytes % entrySize) 0) (ltb (n - 1) (length bytes / entrySize)) (nine .0)) in
+    record {
+      fits =
+          record {
+            bones = omega (arith, c .few-bones);
+            threshold = omega (arith, c .low-threshold);
+            tallies = s;
+            entries = f;
+            entire = whole;
+            frames = omega (arith, c .few-links, c .few-bones);
+          };
+      few-links = c .few-links;
+      few-entries = omega (arith, c .few-bones);
+      space = nltb→le room (length (inputText n k links bytes)) (twenty .0);
+    }
+
+none-refused : first [] ≡ Accepted
+unfolding first
+none-refused = refl
+
+-- the reader accepts what the input writer wrote
+module _ (n k : ℕ) (links : List Link) (bytes : List ℕ) (room : ℕ) (a : Accepts n k links bytes room) (linkRoom recordRoom : ℕ)
+    (more-links : length links ≤ linkRoom) (more-entries : length bytes ≤ recordRoom) where
+  accepted-again : first (readerRows (inputText n k links bytes) linkRoom recordRoom) ≡ Accepted
+  unfolding readerRows
+  accepted-again =
+      let text = inputText n k links bytes in
+      let many = ap length (links-back n k links bytes (a .fits)) in
+      let long = ap length (entries-back n k links bytes (a .fits)) in
+      passes _ 15 0 _ (within 65536 (length text) (omega (arith, length-input n k links bytes, a .few-links, a .few-entries)))
+      ∙ first-accepted (lineRows opening 0 (linesOf text)) _ (rows-passed n k links bytes (a .fits))
+      ∙ passes _ 3 0 _ (within 4096 (length (linksIn (linesOf text))) (omega (arith, a .few-links)))
+      ∙ passes _ 9 0 _ (within (entrySize * 127) (length (entriesIn (linesOf text))) (omega (arith, a .few-entries)))
+      ∙ passes _ 14 0 _ (within linkRoom (length (linksIn (linesOf text))) (omega arith))
+      ∙ passes _ 8 0 [] (within recordRoom (length (entriesIn (linesOf text))) (omega arith))
+      ∙ none-refused
+
+-- a writer that gives a count has accepted, and left its text at the front
+did-write : (j : Judged) (text room room′ : List ℕ) (count : ℕ) → Writes j text room room′ (Wrote count)
+    → (j ≡ Accepted) × (count ≡ length text) × (room′ ≡ text ++ drop (length text) room)
+unfolding wrote put
+did-write Accepted text room room′ count w = let e = w .answer in (refl, cc, w .text-left)
+did-write (Refused number place) text room room′ count w =
+    let e = w .answer in
+    let z : _≡_ {A = ℕ} 0 1 = cc in
+    absurd (omega arith)
+
+-- and one that has accepted gives its text's length
+does-write : (j : Judged) (text room room′ : List ℕ) (r : Written) → Writes j text room room′ r → j ≡ Accepted
+    → (r ≡ Wrote (length text)) × (room′ ≡ text ++ drop (length text) room)
+unfolding wrote put
+does-write j text room room′ r w e =
+    (w .answer ∙ ap (λ (x : Judged). wrote x (length text)) e, w .text-left ∙ ap (λ (x : Judged). put x text room) e)
+
+-- what a reader gives that has accepted
+did-read : (text : List ℕ) (links links′ : List Link) (space space′ : List ℕ) (r : Reading) → Reads text links links′ space space′ r
+    → first (readerRows text (length links) (length space)) ≡ Accepted
+    → (r ≡ Got (bonesIn (linesOf text)) (thresholdIn (linesOf text)) (length (linksIn (linesOf text))) (length (entriesIn (linesOf text)) / entrySize))
+    × (links′ ≡ linksIn (linesOf text) ++ drop (length (linksIn (linesOf text))) links)
+    × (space′ ≡ entriesIn (linesOf text) ++ drop (length (entriesIn (linesOf text))) space)
+unfolding read put
+did-read text links links′ space space′ r s e = (
+  s .answer ∙ ap (λ (x : Judged). read x (linesOf text)) e,
+  s .links-left ∙ ap (λ (x : Judged). put x (linksIn (linesOf text)) links) e,
+  s .record-left ∙ ap (λ (x : Judged). put x (entriesIn (linesOf text)) space) e,
+)
+
+-- a reader that gives numbers has accepted
+got-by : (j : Judged) (ls : List Line) (n k l c : ℕ) → Got n k l c ≡ read j ls → j ≡ Accepted
+unfolding read
+got-by Accepted ls n k l c e = refl
+got-by (Refused number place) ls n k l c e = let z : _≡_ {A = ℕ} 0 1 = cc in absurd (omega arith)
+
+-- what is read from a text that the input writer wrote
+pub write-read : (n k : ℕ) (links : List Link) (bytes room room′ : List ℕ) (count : ℕ) → Smalls links → Bytes bytes
+    → Writes (first (inputRows n k links bytes (length room))) (inputText n k links bytes) room room′ (Wrote count)
+    → (linkSpace linkSpace′ : List Link) (space space′ : List ℕ) (r : Reading)
+    → length links ≤ length linkSpace
+    → length bytes ≤ length space
+    → Reads (take count room′) linkSpace linkSpace′ space space′ r
+    → (r ≡ Got n k (length links) (length bytes / entrySize))
+    × (linkSpace′ ≡ links ++ drop (length links) linkSpace)
+    × (space′ ≡ bytes ++ drop (length bytes) space)
+write-read n k links bytes room room′ count s f w linkSpace linkSpace′ space space′ r h g reads =
+    let text = inputText n k links bytes in
+    let d = did-write _ text room room′ count w in
+    let a = accepts n k links bytes (length room) s f (d .0) in
+    let same : take count room′ ≡ text = ap₂ take (d .1) (d .2) ∙ take-append-seam text (drop (length text) room) in
+    let again = accepted-again n k links bytes (length room) a (length linkSpace) (length space) h g in
+    let back = did-read text linkSpace linkSpace′ space space′ r (subst (λ (t : List ℕ). Reads t linkSpace linkSpace′ space space′ r) same reads) again in
+    let ls = links-back n k links bytes (a .fits) in
+    let es = entries-back n k links bytes (a .fits) in (
+      back .0
+          ∙ ap₂ (λ (x y : ℕ). Got x y (length (linksIn (linesOf text))) (length (entriesIn (linesOf text)) / entrySize)) (bones-back n k links bytes (a .fits)) (threshold-back n k links bytes (a .fits))
+          ∙ ap₂ (λ (xs : List Link) (ys : List ℕ). Got n k (length xs) (length ys / entrySize)) ls es,
+      back .1 ∙ ap (λ (xs : List Link). xs ++ drop (length xs) linkSpace) ls,
+      back .2 ∙ ap (λ (xs : List ℕ). xs ++ drop (length xs) space) es,
+    )
+
+-- a text that the reader accepts passes rows 16 to 19
+pub lines-accepted : (text : List ℕ) (linkRoom recordRoom : ℕ) → first (readerRows text linkRoom recordRoom) ≡ Accepted → first (lineRows opening 0 (linesOf text)) ≡ Accepted
+unfolding readerRows
+lines-accepted text linkRoom recordRoom e =
+    accepted-left (lineRows opening 0 (linesOf text)) _ (row-accepted (ltb 65536 (length text)) 15 0 _ e .1)
+
+-- what is written of a text that the reader read
+pub read-write : (text : List ℕ) (linkSpace linkSpace′ : List Link) (space space′ : List ℕ) (n k l c : ℕ)
+    → Reads text linkSpace linkSpace′ space space′ (Got n k l c)
+    → T (unnoted (linesOf text))
+    → (room room′ : List ℕ) (r : Written)
+    → first (inputRows n k (take l linkSpace′) (take (entrySize * c) space′) (length room)) ≡ Accepted
+    → Writes (first (inputRows n k (take l linkSpace′) (take (entrySize * c) space′) (length room))) (inputText n k (take l linkSpace′) (take (entrySize * c) space′)) room room′ r
+    → (r ≡ Wrote (length text)) × (room′ ≡ text ++ drop (length text) room)
+read-write text linkSpace linkSpace′ space space′ n k l c reads t room room′ r e w =
+    let ls = linesOf text in
+    let yes = got-by _ ls n k l c (reads .answer) in
+    let back = did-read text linkSpace linkSpace′ space space′ (Got n k l c) reads yes in
+    let got = back .0 in
+    let n-is : n ≡ bonesIn ls = cc in
+    let k-is : k ≡ thresholdIn ls = cc in
+    let l-is : l ≡ length (linksIn ls) = cc in
+    let c-is : c ≡ length (entriesIn ls) / entrySize = cc in
+    let rows = lines-accepted text (length linkSpace) (length space) yes in
+    let whole = entries-whole opening 0 ls rows in
+    let size : entrySize * c ≡ length (entriesIn ls) = omega arith in
+    let links-are : take l linkSpace′ ≡ linksIn ls = ap₂ take l-is (back .1) ∙ take-append-seam (linksIn ls) (drop (length (linksIn ls)) linkSpace) in
+    let entries-are : take (entrySize * c) space′ ≡ entriesIn ls = ap₂ take size (back .2) ∙ take-append-seam (entriesIn ls) (drop (length (entriesIn ls)) space) in
+    let same : inputText n k (take l linkSpace′) (take (entrySize * c) space′) ≡ text
+    = ap₂ (λ (x y : ℕ). inputText x y (take l linkSpace′) (take (entrySize * c) space′)) n-is k-is
+    ∙ ap₂ (inputText (bonesIn ls) (thresholdIn ls)) links-are entries-are
+    ∙ sym (text-back text rows t) in
+    let d = does-write _ _ room room′ r w e in
+    (d .0 ∙ ap (λ (x : List ℕ). Wrote (length x)) same, d .1 ∙ ap (λ (x : List ℕ). x ++ drop (length x) room) same)

@@ -1,0 +1,71 @@
+-- The theorems about texts, over all inputs, each closed by a citation.
+-- A link's bones are below 256 and its tally below 65,536 (`Smalls`), and a run of bytes holds bytes (`Bytes`), as their types in code have it.
+-- Assumes nothing.
+use Prim.Native.Nat.{ℕ, _+_, _*_, _/_, _%_, _≤_, _<_}
+use mathlib.Core.Path.{_≡_, sym, _∙_}
+use mathlib.Core.List.{List, _++_}
+use lib.Dec.{T}
+use lib.ListN.{length, take, drop}
+use Rattle.meaning.specs.declared.Link.{Link}
+use Rattle.meaning.specs.declared.Judged.{Judged}
+use Rattle.meaning.specs.declared.Judged.the-variants.{Accepted}
+use Rattle.meaning.specs.Judge.{first}
+use Rattle.cutting.specs.Record.{entrySize}
+use Rattle.texts.specs.declared.Reading.{Reading}
+use Rattle.texts.specs.declared.Reading.the-variants.{Got}
+use Rattle.texts.specs.declared.Written.{Written}
+use Rattle.texts.specs.declared.Written.the-variants.{Bytes as Wrote}
+use Rattle.texts.specs.Lines.{linesOf, opening, lineRows}
+use Rattle.texts.specs.Reader.{linksIn, entriesIn, bonesIn, thresholdIn, readerRows, Reads}
+use Rattle.texts.specs.Writers.{inputText, resultText, inputRows, unnoted, Writes}
+use Rattle.texts.proofs.Frames.{Bytes}
+use Rattle.texts.proofs.WritesTexts.{length-input, length-result}
+use Rattle.texts.proofs.RoundTripWritten.{Smalls}
+use Rattle.texts.proofs.RoundTripRead.{text-back}
+use Rattle.texts.proofs.RoundTripCalls.{lines-accepted, write-read, read-write}
+
+-- what the input writer writes, the reader reads back as the same n, k, links and cuts
+pub written-then-read : (n k : ℕ) (links : List Link) (bytes room room′ : List ℕ) (count : ℕ) → Smalls links → Bytes bytes
+    → Writes (first (inputRows n k links bytes (length room))) (inputText n k links bytes) room room′ (Wrote count)
+    → (linkSpace linkSpace′ : List Link) (space space′ : List ℕ) (r : Reading)
+    → length links ≤ length linkSpace
+    → length bytes ≤ length space
+    → Reads (take count room′) linkSpace linkSpace′ space space′ r
+    → (r ≡ Got n k (length links) (length bytes / entrySize))
+    × (linkSpace′ ≡ links ++ drop (length links) linkSpace)
+    × (space′ ≡ bytes ++ drop (length bytes) space)
+written-then-read = write-read
+
+-- a text without notes whose contents the input writer accepts, read and written again, is the same text
+pub read-then-written : (text : List ℕ) (linkSpace linkSpace′ : List Link) (space space′ : List ℕ) (n k l c : ℕ)
+    → Reads text linkSpace linkSpace′ space space′ (Got n k l c)
+    → T (unnoted (linesOf text))
+    → (room room′ : List ℕ) (r : Written)
+    → first (inputRows n k (take l linkSpace′) (take (entrySize * c) space′) (length room)) ≡ Accepted
+    → Writes (first (inputRows n k (take l linkSpace′) (take (entrySize * c) space′) (length room))) (inputText n k (take l linkSpace′) (take (entrySize * c) space′)) room room′ r
+    → (r ≡ Wrote (length text)) × (room′ ≡ text ++ drop (length text) room)
+read-then-written = read-write
+
+-- a text without notes that the reader accepts is the input text of what is read from it, whatever its numbers
+pub read-is-input : (text : List ℕ) (linkRoom recordRoom : ℕ) → first (readerRows text linkRoom recordRoom) ≡ Accepted → T (unnoted (linesOf text))
+    → text ≡ inputText (bonesIn (linesOf text)) (thresholdIn (linesOf text)) (linksIn (linesOf text)) (entriesIn (linesOf text))
+read-is-input text linkRoom recordRoom e t = text-back text (lines-accepted text linkRoom recordRoom e) t
+
+-- a text has one reading, and one text is written: what the promises say of the answer and of lent room settles both
+pub one-reading : (text : List ℕ) (links links₁ links₂ : List Link) (space space₁ space₂ : List ℕ) (r s : Reading)
+    → Reads text links links₁ space space₁ r
+    → Reads text links links₂ space space₂ s
+    → (r ≡ s) × (links₁ ≡ links₂) × (space₁ ≡ space₂)
+one-reading text links links₁ links₂ space space₁ space₂ r s a b =
+    (a .answer ∙ sym (b .answer), a .links-left ∙ sym (b .links-left), a .record-left ∙ sym (b .record-left))
+
+pub one-writing : (j : Judged) (text room room₁ room₂ : List ℕ) (r s : Written) → Writes j text room room₁ r → Writes j text room room₂ s
+    → (r ≡ s) × (room₁ ≡ room₂)
+one-writing j text room room₁ room₂ r s a b = (a .answer ∙ sym (b .answer), a .text-left ∙ sym (b .text-left))
+
+-- how long the texts are
+pub input-length : (n k : ℕ) (links : List Link) (bytes : List ℕ) → length (inputText n k links bytes) ≡ 20 + 13 * length links + 47 * (length bytes / entrySize)
+input-length = length-input
+
+pub result-length : (n k : ℕ) (bytes : List ℕ) → length (resultText n k bytes) ≡ 20 + 47 * (length bytes / entrySize) + 9 * n
+result-length = length-result

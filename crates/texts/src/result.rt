@@ -1,0 +1,79 @@
+// The result writer: head, the record's cuts, the pile names that they leave, close.
+use super::Written;
+use super::kinds::put_close;
+use super::kinds::put_cuts;
+use super::kinds::put_head;
+use super::kinds::put_labels;
+use cutting::record::Record;
+use meaning::Judged;
+ghost use mathlib.Core.Path.{_≡_};
+ghost use Prim.Native.Nat.{_+_, _*_, _≤_};
+ghost use lib.Dec.{ltb};
+ghost use lib.ListN.{length};
+ghost use Rattle.meaning.specs.Judge.{refuse};
+ghost use Rattle.meaning.specs.declared.Judged.the-variants.{Accepted};
+ghost use Rattle.weighing.specs.Records.{firstOf};
+ghost use Rattle.texts.specs.Writers.{over, resultText, Named, Writes};
+
+// The length of a result text.
+fn length_of(n: u64, cuts: usize) -> usize
+    requires { ⌜ (n ≤ 128) × (cuts ≤ 127) ⌝ }
+    ensures { λ r. ⌜ r ≡ 20 + 47 * cuts + 9 * n ⌝ }
+{
+    20 + 47 * cuts + 9 * (n as usize)
+}
+
+// The text at the front of lent room that it fits in, from the names that the record's cuts leave.
+fn put_result(room: &mut [u8], n: u64, k: u64, bytes: &[u8], names: &[u8; 128])
+    requires { ⌜ Named n k (now bytes) (now names) ⌝ }
+    requires { ⌜ length (resultText n k (now bytes)) ≤ length (now room) ⌝ }
+    ensures { λ _. ⌜ now (room .exit) ≡ over (now (room .entry)) 0 (resultText n k (now (bytes .entry))) ⌝ }
+{
+    let cuts = put_head(room, 0, n, k);
+    let labels = put_cuts(room, cuts, bytes);
+    let close = put_labels(room, labels, n as usize, names);
+    let frames = 1 + (bytes.len() / Record::ENTRY) as u64 + n;
+    put_close(room, close, frames);
+}
+
+// What the result writer does once rows 1 to 13 are passed: row 20, then the text.
+pub(crate) fn result_from(
+    room: &mut [u8],
+    n: u64,
+    k: u64,
+    bytes: &[u8],
+    names: &[u8; 128],
+) -> Written
+    requires { ⌜ Named n k (now bytes) (now names) ⌝ }
+    ensures { λ r. ⌜ Writes (refuse (ltb (length (now (room .entry))) (length (resultText n k (now (bytes .entry))))) 20 0) (resultText n k (now (bytes .entry))) (now (room .entry)) (now (room .exit)) r ⌝ }
+{
+    let length = length_of(n, bytes.len() / Record::ENTRY);
+    if room.len() < length {
+        return Written::Refused {
+            number: 20,
+            place: 0,
+        };
+    }
+    put_result(room, n, k, bytes, names);
+    Written::Bytes {
+        count: length as u32,
+    }
+}
+
+// The same after rows 1 to 13, by what they gave.
+pub(crate) fn result_after(
+    judged: Judged,
+    n: u64,
+    k: u64,
+    bytes: &[u8],
+    names: &[u8; 128],
+    room: &mut [u8],
+) -> Written
+    requires { ⌜ (judged ≡ Accepted → Named n k (now bytes) (now names)) ⌝ }
+    ensures { λ r. ⌜ Writes (firstOf judged (refuse (ltb (length (now (room .entry))) (length (resultText n k (now (bytes .entry))))) 20 0)) (resultText n k (now (bytes .entry))) (now (room .entry)) (now (room .exit)) r ⌝ }
+{
+    match judged {
+        Judged::Refused { number, place } => Written::Refused { number, place },
+        Judged::Accepted => result_from(room, n, k, bytes, names),
+    }
+}

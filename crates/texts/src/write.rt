@@ -1,0 +1,53 @@
+// Writing lines of hexadecimal at a place of lent room: a digit, a byte, a run of bytes with its sum, and the line of a frame.
+ghost use mathlib.Core.Path.{_≡_};
+ghost use mathlib.Core.List.{[], _∷_, _++_};
+ghost use Prim.Native.Nat.{_+_, _*_, _≤_, _<_};
+ghost use lib.ListN.{length};
+ghost use Rattle.texts.specs.Frame.{byteSum, digit, hex, line};
+ghost use Rattle.texts.specs.Writers.{over};
+
+// The character of a digit.
+pub(crate) fn digit_of(d: u8) -> u8
+    requires { ⌜ d < 16 ⌝ }
+    ensures { λ r. ⌜ r ≡ digit d ⌝ }
+{
+    if d < 10 { 48 + d } else { 87 + d }
+}
+
+// A byte at a place, as two digits.
+pub(crate) fn put_byte(room: &mut [u8], at: usize, b: u8)
+    requires { ⌜ at + 2 ≤ length (now room) ⌝ }
+    ensures { λ _. ⌜ now (room .exit) ≡ over (now (room .entry)) at (hex (b ∷ [])) ⌝ }
+{
+    room[at] = digit_of(b / 16);
+    room[at + 1] = digit_of(b % 16);
+}
+
+// Bytes at a place, as pairs of digits; gives their sum, the carry thrown away, from a first byte on.
+pub(crate) fn put_bytes(room: &mut [u8], at: usize, first: u8, bytes: &[u8]) -> u8
+    requires { ⌜ at + 2 * length (now bytes) ≤ length (now room) ⌝ }
+    ensures { λ r. ⌜ (r ≡ byteSum (first ∷ now (bytes .entry))) × (now (room .exit) ≡ over (now (room .entry)) at (hex (now (bytes .entry)))) ⌝ }
+{
+    let mut sum = first;
+    let mut i = 0;
+    while i < bytes.len() {
+        let b = bytes[i];
+        put_byte(room, at + 2 * i, b);
+        sum = std::num::wrapping_add_u8(sum, b);
+        i += 1;
+    }
+    sum
+}
+
+// The line of a frame at a place; gives the place behind it.
+pub(crate) fn put_line(room: &mut [u8], at: usize, kind: u8, payload: &[u8]) -> usize
+    requires { ⌜ at + (2 * length (now payload) + 5) ≤ length (now room) ⌝ }
+    ensures { λ r. ⌜ (r ≡ at + length (line kind (now (payload .entry)))) × (now (room .exit) ≡ over (now (room .entry)) at (line kind (now (payload .entry)))) ⌝ }
+{
+    put_byte(room, at, kind);
+    let sum = put_bytes(room, at + 2, kind, payload);
+    let end = at + 2 + 2 * payload.len();
+    put_byte(room, end, std::num::wrapping_sub_u8(0, sum));
+    room[end + 2] = 10;
+    end + 3
+}
