@@ -21,6 +21,9 @@ pub mod GrowSteps
 pub mod GrowState
 pub mod GrowEnds
 pub mod Flowing
+pub mod WaysListed
+pub mod ProbeSent
+pub mod ProbeWeighs
 pub mod RecordsRows
 pub mod RecordsKept
 pub mod RecordsLink

@@ -1,11 +1,14 @@
 -- Tally sent from one bone to a set: pairs of bones number 0 to m − 1, with ends x and y, room c each way, and what is left of the room from
 -- x to y; what is left from y to x is the rest of twice the room.
-use Prim.Native.Nat.{ℕ, _+_, _*_, _-_, _≤_}
+use Prim.Native.Nat.{ℕ, _+_, _*_, _-_, _/_, _%_, _≤_, _<_, min}
 use mathlib.Core.Path.{_≡_}
-use mathlib.Core.Bool.{Bool, cond, not, _&&_}
+use mathlib.Core.Bool.{cond, not, _&&_}
+use mathlib.Core.List.{List}
 use lib.Dec.{T}
+use lib.ListN.{length, getD}
 use Rattle.meaning.specs.Count.{Bones, sum}
 use Rattle.meaning.specs.Tally.{Tally, weight}
+use Rattle.weighing.specs.Scan.{marked}
 
 pub record Ways : Type 0 where
   pub pairs : ℕ
@@ -27,3 +30,75 @@ Carried n w S p = (A : Bones) → leaves p (p .room) A ≤ weight n w S A
 unfoldable pub Sent : Ways → (ℕ → ℕ) → ℕ → Bones → ℕ → ℕ → ℕ → Type 0
 Sent p f t L v b d =
     (A : Bones) → T (A t) → ((l : ℕ) → T (L l) → T (not (A l))) → leaves p f A + (v + cond (A b) d 0) ≡ leaves p (p .room) A
+
+-- a pair as one number, and the pairs that a run of such numbers means
+abbrev pub wayOf : ℕ → ℕ → ℕ → ℕ
+wayOf x y room = x + 256 * y + 65536 * room
+
+unfoldable pub waysOf : List ℕ → ℕ → Ways
+waysOf ways m = record { pairs = m; x = λ q. getD ways q 0 % 256; y = λ q. getD ways q 0 / 256 % 256; room = λ q. getD ways q 0 / 65536 }
+
+-- the room of such a pair out of a side
+unfoldable pub wayOut : Bones → ℕ → ℕ
+wayOut A v = cond (A (v % 256) && not (A (v / 256 % 256))) (v / 65536) 0 + cond (A (v / 256 % 256) && not (A (v % 256))) (2 * (v / 65536) - v / 65536) 0
+
+-- the tally with no pair over k
+unfoldable pub capped : ℕ → Tally → Tally
+capped k w i j = min (w i j) k
+
+-- the pairs are those of S, each with its tally, k at most: their room out of a side is what the side weighs by that tally
+unfoldable pub Lists : ℕ → Tally → ℕ → Bones → Ways → Type 0
+Lists n w k S p = (A : Bones) → leaves p (p .room) A ≡ weight n (capped k w) S A
+
+-- a run of 448 numbers, of which the first m are those pairs, unless m is over 448
+pub record Ready (n : ℕ) (w : Tally) (k : ℕ) (S : Bones) (ways : List ℕ) (m : ℕ) : Type 0 where
+  pub long : length ways ≡ 448
+  pub lists : m ≤ 448 → Lists n w k S (waysOf ways m)
+
+-- what the pair of bones i and j adds to the weight of the split of S whose one side is A; and all pairs of a bone below i with a lesser
+-- one, and those of i with the bones below j
+unfoldable pub pairOut : Tally → Bones → Bones → ℕ → ℕ → ℕ
+pairOut w S A i j = cond ((S i && A i) && (S j && not (A j))) (w i j) 0 + cond ((S j && A j) && (S i && not (A i))) (w j i) 0
+
+unfoldable pub pairsOut : Tally → Bones → Bones → ℕ → ℕ → ℕ
+pairsOut w S A i j = sum i (λ a. sum a (pairOut w S A a)) + sum j (pairOut w S A i)
+
+-- a list of 448 pairs on the way: the first m are the pairs so far, unless there are too many
+pub record Listed (w : Tally) (k : ℕ) (S : Bones) (ways : List ℕ) (m i j : ℕ) : Type 0 where
+  pub long : length ways ≡ 448
+  pub lists : m ≤ 448 → (A : Bones) → leaves (waysOf ways m) (waysOf ways m .room) A ≡ pairsOut (capped k w) S A i j
+
+-- what a run of numbers says is left of each pair's room
+unfoldable pub leftOf : List ℕ → ℕ → ℕ
+leftOf res q = getD res q 0
+
+-- d that was on its way from bone b is on its way from bone c
+pub record Moved (p : Ways) (old new : List ℕ) (b c d : ℕ) : Type 0 where
+  pub moved : (t : ℕ) (L : Bones) (v : ℕ) → Sent p (leftOf old) t L v b d → Sent p (leftOf new) t L v c d
+
+-- d more was sent from t to L
+pub record Sends (p : Ways) (old new : List ℕ) (t : ℕ) (L : Bones) (d : ℕ) : Type 0 where
+  pub sends : (v : ℕ) → Sent p (leftOf old) t L v t 0 → Sent p (leftOf new) t L (v + d) t 0
+
+-- the bones that are not marked
+unfoldable pub unmarked : List ℕ → Bones
+unmarked marks b = not (marked marks b)
+
+-- no bone of L is marked
+pub record Clear (L : Bones) (marks : List ℕ) : Type 0 where
+  pub long : length marks ≡ 128
+  pub clear : (b : ℕ) → T (L b) → T (not (marked marks b))
+
+-- a side that holds t and nothing of L, and its room, below k
+pub record Low (p : Ways) (k t : ℕ) (L : Bones) (marks : List ℕ) (weighs : ℕ) : Type 0 where
+  pub holds : T (marked marks t)
+  pub clear : (b : ℕ) → T (L b) → T (not (marked marks b))
+  pub weighed : weighs ≡ leaves p (p .room) (marked marks)
+  pub light : weighs < k
+
+-- what sending shows, by its verdict: 1, that every side that holds t and nothing of L has room k or more; 2, a side that has less; else
+-- nothing
+pub record Flowed (p : Ways) (k t : ℕ) (L : Bones) (marks : List ℕ) (verdict weighs : ℕ) : Type 0 where
+  pub long : length marks ≡ 128
+  pub heavy : verdict ≡ 1 → (A : Bones) → T (A t) → ((b : ℕ) → T (L b) → T (not (A b))) → k ≤ leaves p (p .room) A
+  pub low : verdict ≡ 2 → Low p k t L marks weighs
