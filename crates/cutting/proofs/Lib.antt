@@ -8,6 +8,7 @@ pub mod Parting
 pub mod Finish
 pub mod Going
 pub mod Carried
+pub mod Judged
 pub mod Continuing
 pub mod Demands
 pub mod Keeping

@@ -5,11 +5,13 @@ mod group;
 mod heap;
 mod judging;
 pub mod record;
+mod records;
 mod thin;
 
 pub use check::checking;
 pub use group::grouping;
 pub use thin::thinning;
+pub use records::checking_records;
 
 // What grouping and checking answer: a refusal of the table with its place, or the number of groups (of piles) and whether the run of cuts
 // is finished.
