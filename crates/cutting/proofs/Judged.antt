@@ -1,7 +1,7 @@
 -- From a judged input and its table to the call: what is promised of what was judged and of the table's tally is promised of the links.
 -- Assumes nothing.
 use Prim.Native.Nat.{ℕ, _≤_, _<_}
-use mathlib.Core.Path.{_≡_, refl, sym, _∙_, ap}
+use mathlib.Core.Path.{_≡_, refl, sym, _∙_, ap, subst}
 use mathlib.Core.Bool.{Bool, true}
 use mathlib.Core.List.{List, [], _∷_, _++_}
 use lib.ListN.{length, replicate}
@@ -13,17 +13,23 @@ use Rattle.weighing.specs.Links.{tableRows}
 use Rattle.weighing.specs.Table.{held, filled}
 use Rattle.weighing.proofs.LinksBytes.{Short}
 use Rattle.cutting.specs.declared.Answer.{Answer}
-use Rattle.cutting.specs.Rows.{labelRow, recordRows}
-use Rattle.cutting.specs.Calls.{answered, settled, written, Checked, Checking}
+use Rattle.cutting.specs.Rows.{labelRow, spaceRow, recordRows}
+use Rattle.cutting.specs.Calls.{answered, settled, written, Checked, Checking, Recorded, Grouped, Grouping}
 use Rattle.cutting.specs.Record.{cutsOf}
 use Rattle.meaning.specs.Tally.{pairTally}
 use Rattle.meaning.specs.Heap.{start, left, piles, finished}
+use Rattle.meaning.specs.Firm.{label, groups}
 use Rattle.weighing.proofs.LinksRows.{never-both}
-use Rattle.cutting.proofs.Carried.{filled-counted, filled-alike, checked-alike, checking-core, checking-stop}
+use Rattle.cutting.proofs.Carried.{filled-counted, filled-alike, checked-alike, checking-core, checking-stop, grouped-alike, grouping-core, grouping-stop}
 
 module _ (n k : ℕ) (good : Bool) (links : List Link) (j : Judged) (judged : j ≡ first (tableRows n k good links)) where
+  pub judged-fits : j ≡ Accepted → (0 < n) × (n ≤ 128) × (k ≤ 65535)
+  judged-fits e =
+      let counted = filled-counted n k good links j judged e in
+      (counted .some-bones, counted .few-bones, counted .low-threshold)
+
   pub judged-few : j ≡ Accepted → (0 < n) × (n ≤ 128)
-  judged-few e = (filled-counted n k good links j judged e .some-bones, filled-counted n k good links j judged e .few-bones)
+  judged-few e = (judged-fits e .0, judged-fits e .1)
 
 pub judged-checking : (n k : ℕ) (good : Bool) (links : List Link) (j : Judged) → j ≡ first (tableRows n k good links) → Short links → (bytes labels labels′ : List ℕ) (r : Answer)
     → Checked (j ∷ labelRow n (length labels) ∷ recordRows n (held (filled j (replicate 16384 0) links)) k bytes) n (held (filled j (replicate 16384 0) links)) k bytes labels labels′ r → Checking n k good links bytes labels labels′ r
@@ -36,6 +42,21 @@ judged-checking n k good links (Refused number place) e short bytes labels label
     record {
       answer = c .answer ∙ ap (λ (i : Judged). answered i (piles n (left n start (cutsOf bytes))) (finished n (pairTally links) k (left n start (cutsOf bytes)))) stop;
       names-left = c .names-left ∙ ap (λ (i : Judged). settled i labels (written n (left n start (cutsOf bytes)) labels)) stop;
+    }
+
+pub judged-grouping : (n k : ℕ) (good : Bool) (links : List Link) (j : Judged) → j ≡ first (tableRows n k good links) → Short links → (bytes labels labels′ space space′ : List ℕ) (r : Answer)
+    → Grouped (j ∷ labelRow n (length labels) ∷ spaceRow n (length space) ∷ recordRows n (held (filled j (replicate 16384 0) links)) k bytes) n (held (filled j (replicate 16384 0) links)) k bytes labels labels′ space space′ r
+    → Grouping n k good links bytes labels labels′ space space′ r
+unfolding first answered settled Recorded
+judged-grouping n k good links Accepted e short bytes labels labels′ space space′ r c =
+    let alike = filled-alike n k good links Accepted e refl (filled Accepted (replicate 16384 0) links) refl short in
+    grouped-alike n _ _ alike k _ _ _ _ _ _ _ _ (grouping-core n k good links bytes (length labels) (length space) _ alike (sym e)) c
+judged-grouping n k good links (Refused number place) e short bytes labels labels′ space space′ r c =
+    let stop = sym (grouping-stop n k good links bytes (length labels) (length space) number place (sym e)) in
+    record {
+      answer = c .answer ∙ ap (λ (i : Judged). answered i (groups n (pairTally links) k) true) stop;
+      labels-left = c .labels-left ∙ ap (λ (i : Judged). settled i labels (written n (label n (pairTally links) k) labels)) stop;
+      record-left = subst (λ (i : Judged). Recorded i n (pairTally links) k bytes space space′) stop (c .record-left);
     }
 
 -- what was judged stands before the rows of the core

@@ -10,8 +10,9 @@ mod thin;
 
 pub use check::checking;
 pub use group::grouping;
-pub use thin::thinning;
 pub use records::checking_records;
+pub use records::grouping_records;
+pub use thin::thinning;
 
 // What grouping and checking answer: a refusal of the table with its place, or the number of groups (of piles) and whether the run of cuts
 // is finished.
