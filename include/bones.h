@@ -31,7 +31,7 @@
  *
  * Who owns what
  *   The caller owns every run; nothing is kept after the call, nothing is allocated, and no other memory is changed. Calls from
- *   several threads do not disturb each other. A call uses some 80 KB of stack. Labels and space must not overlap each other, nor
+ *   several threads do not disturb each other. A call uses some 70 KB of stack. Labels and space must not overlap each other, nor
  *   links or record; links and record are only read, and may overlap.
  *
  * What comes back
