@@ -3,13 +3,13 @@
 -- Assumes nothing.
 use Prim.Native.Nat.{ℕ, suc, _<_}
 use mathlib.Core.Path.{_≡_, refl, _∙_, ap₂, fun-ext}
-use mathlib.Core.Bool.{Bool, not, _&&_, _||_}
+use mathlib.Core.Bool.{not, _&&_, _||_}
 use mathlib.Core.List.{List, [], _∷_, _++_}
 use lib.Dec.{leb, eqb}
-use Rattle.meaning.specs.Count.{Bones, someSet, everySet, every, least, count}
+use Rattle.meaning.specs.Count.{someSet, everySet, every, least, count}
 use Rattle.meaning.specs.Tally.{Tally, weight}
 use Rattle.meaning.specs.Firm.{splits, firm, group, label, groups}
-use Rattle.meaning.specs.Heap.{Heap, Cut, Lawful, LawfulRun, parted, pile, stands, finished}
+use Rattle.meaning.specs.Heap.{Heap, Cut, LawfulRun, parted, pile, stands, finished}
 use Rattle.meaning.proofs.Firm.{weight-same}
 use Rattle.cutting.specs.Rows.{entryRows, entriesRows}
 

@@ -1,14 +1,14 @@
 -- From a record that is accepted to one that is finished: what the given entries begin, and what the promise says of the end.
 -- Assumes nothing.
-use Prim.Native.Nat.{ℕ, zero, suc, _+_, _*_, _-_, _/_, _%_, _≤_, _<_}
+use Prim.Native.Nat.{ℕ, _+_, _*_, _-_, _/_, _%_, _≤_, _<_}
 use mathlib.Core.Path.{_≡_, refl, sym, _∙_, ap, ap₂, subst}
 use mathlib.Core.Bool.{Bool, true, false, not, _||_}
-use mathlib.Core.List.{List, [], _∷_, _++_}
-use native.Mathlib.Nat.{le-refl, zero-add}
+use mathlib.Core.List.{List, _++_}
+use native.Mathlib.Nat.{zero-add}
 use native.Mathlib.Omega.{arith}
 use lib.Dec.{T, eqb, ltb}
 use lib.ListN.{length, take, drop, length-append, length-drop}
-use lib.Seq.{paste, take-length, take-at, drop-drop, drop-append-add, length-paste}
+use lib.Seq.{paste, take-length, take-at, drop-drop, drop-append-add}
 use borrow.Author.Tests.{eqb-true, ltb-false, not-false}
 use Rattle.meaning.specs.declared.Judged.the-variants.{Accepted}
 use Rattle.meaning.specs.Judge.{first}
@@ -17,7 +17,7 @@ use Rattle.meaning.specs.Firm.{label, groups}
 use Rattle.meaning.specs.Heap.{Heap, start, LawfulRun, left, piles, finished}
 use Rattle.weighing.specs.Side.{heapOf}
 use Rattle.cutting.specs.Record.{entrySize, cutsIn, cutsOf}
-use Rattle.cutting.specs.Rows.{recordRow, recordRows, entriesRows}
+use Rattle.cutting.specs.Rows.{recordRow, recordRows}
 use Rattle.cutting.specs.Finish.{Begun, Ended}
 use Rattle.cutting.specs.Calls.{written, Continued}
 use Rattle.cutting.proofs.Names.{names-same}

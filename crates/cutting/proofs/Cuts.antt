@@ -7,7 +7,7 @@ use native.Mathlib.Nat.{sub-zero}
 use native.Mathlib.Numerals.{add-one}
 use native.Mathlib.Omega.{arith}
 use lib.ListN.{length, getD, take, drop, List·getD-append, length-drop, length-take, take-append-drop}
-use lib.Seq.{drop-drop, drop-append-le, take-append-le, take-at, length-take-le}
+use lib.Seq.{drop-drop, drop-append-le, take-append-le}
 use Rattle.meaning.specs.Heap.{Cut}
 use Rattle.cutting.specs.declared.record.Entry.{Entry}
 use Rattle.cutting.specs.Record.{entrySize, entryOf, entryBytes, entryAt, entryPut, cutOf, cutsIn, cutsOf}

@@ -22,9 +22,10 @@ use Rattle.weighing.specs.Links.{tableRows}
 use Rattle.weighing.proofs.LinksRows.{Counted, table-counted}
 use Rattle.cutting.specs.declared.Answer.{Answer}
 use Rattle.cutting.specs.declared.Answer.the-variants.{Gave, Refused as Refused·answer}
+use Rattle.cutting.specs.declared.Thinned.{Thinned}
 use Rattle.cutting.specs.Record.{entrySize, cutsIn, cutsOf}
 use Rattle.cutting.specs.Rows.{recordRows, entriesRows, checkingRows, groupingRows}
-use Rattle.cutting.specs.Calls.{settled, written, answered, Checking, Recorded, Continued, Grouping}
+use Rattle.cutting.specs.Calls.{settled, written, answered, Checking, Recorded, Continued, Grouping, Thinning}
 use Rattle.cutting.proofs.Names.{names-same}
 use Rattle.cutting.proofs.Cuts.{length-cuts}
 use Rattle.cutting.proofs.Lawful.{Stopped, narrow-cuts, entries-lawful, lawful-entries, entries-stop, record-fits}
@@ -146,7 +147,7 @@ module _ (n k : ℕ) (good : Bool) (links : List Link) (judged : first (tableRow
             entries-stop n (pairTally links) k (cutsOf bytes) start 0 number place (counted .few-bones) (narrow-cuts (length bytes / entrySize) bytes) e,
           )
 
--- at most one answer and one content of the label space meets each promise
+-- at most one answer and one content of the label space (for thinning, of the link space) meets each promise
 pub checking-unique : (n k : ℕ) (good : Bool) (links : List Link) (bytes labels a b : List ℕ) (r s : Answer)
     → Checking n k good links bytes labels a r → Checking n k good links bytes labels b s → (r ≡ s) × (a ≡ b)
 checking-unique n k good links bytes labels a b r s g h = (g .answer ∙ sym (h .answer), g .names-left ∙ sym (h .names-left))
@@ -154,3 +155,7 @@ checking-unique n k good links bytes labels a b r s g h = (g .answer ∙ sym (h 
 pub grouping-unique : (n k : ℕ) (good : Bool) (links : List Link) (bytes labels a b space c d : List ℕ) (r s : Answer)
     → Grouping n k good links bytes labels a space c r → Grouping n k good links bytes labels b space d s → (r ≡ s) × (a ≡ b)
 grouping-unique n k good links bytes labels a b space c d r s g h = (g .answer ∙ sym (h .answer), g .labels-left ∙ sym (h .labels-left))
+
+pub thinning-unique : (n k : ℕ) (good : Bool) (links : List Link) (space a b : List ℕ) (r s : Thinned)
+    → Thinning n k good links space a r → Thinning n k good links space b s → (r ≡ s) × (a ≡ b)
+thinning-unique n k good links space a b r s g h = (g .answer ∙ sym (h .answer), g .links-left ∙ sym (h .links-left))

@@ -1,18 +1,18 @@
 -- Laws of entries as bytes: a run put into another in one go or in two, and reading and writing an entry undo each other.
 -- Assumes nothing.
-use Prim.Native.Nat.{ℕ, zero, suc, _+_, _*_, _/_, _%_, _^_, _≤_, _<_}
-use mathlib.Core.Path.{_≡_, refl, sym, _∙_, ap, ap₂}
+use Prim.Native.Nat.{ℕ, _+_, _*_, _/_, _%_, _^_, _≤_, _<_}
+use mathlib.Core.Path.{_≡_, sym, _∙_, ap, ap₂}
 use mathlib.Core.Logic.{⊎-elim}
 use mathlib.Core.List.{List, [], _∷_, _++_, append-assoc, append-nil}
-use native.Mathlib.Nat.{le-refl, zero-add, add-zero, add-assoc}
+use native.Mathlib.Nat.{le-refl, add-zero, add-assoc}
 use native.Mathlib.Omega.{arith}
 use lib.Dec.{ltb, ltb→lt, nltb→le}
-use lib.ListN.{length, getD, take, drop, length-append, length-drop, drop-of-length-le, take-append-drop, replicate}
-use lib.Seq.{paste, take-all, take-length, take-append-seam, take-append-add, drop-append-seam, drop-append-add, take-at, drop-at, drop-drop, getD-drop, length-take-le, take-take, take-add, length-paste, drop-paste, take-paste}
+use lib.ListN.{length, getD, take, drop, length-drop, drop-of-length-le, take-append-drop, replicate}
+use lib.Seq.{paste, take-all, take-length, take-append-add, take-at, drop-at, drop-drop, getD-drop, length-take-le, take-take, take-add, length-paste, drop-paste, take-paste}
 use borrow.Author.Tests.{lt-ltb, le-ltb}
 use Rattle.meaning.proofs.Tests.{decide}
 use Rattle.cutting.specs.declared.record.Entry.{Entry}
-use Rattle.cutting.specs.Record.{entrySize, headBytes, entryOf, entryBytes, entryAt, entryPut}
+use Rattle.cutting.specs.Record.{entrySize, entryOf, entryBytes, entryAt, entryPut}
 
 -- a run put over another of the same length is that run
 pub paste-over : (d s : List ℕ) → length s ≡ length d → paste d 0 s (length s) ≡ s

@@ -1,21 +1,21 @@
 -- Laws of cutting to the end: when a search shows that a run is finished, which piles stay firm after a cut, and that the cuts never
 -- outgrow the record space.
 -- Assumes nothing.
-use Prim.Native.Nat.{ℕ, suc, _+_, _-_, _≤_, _<_, zero-le, min}
-use mathlib.Core.Path.{_≡_, refl, sym, _∙_, ap, subst}
+use Prim.Native.Nat.{ℕ, _+_, _-_, _≤_, _<_, zero-le, min}
+use mathlib.Core.Path.{_≡_, sym, _∙_, ap, subst}
 use mathlib.Core.Logic.{⊎-elim}
-use mathlib.Core.Bool.{Bool, true, false, not, _&&_, _||_}
-use mathlib.Core.List.{List, [], _∷_, _++_}
+use mathlib.Core.Bool.{Bool, true, false, not, _||_}
+use mathlib.Core.List.{List}
 use native.Mathlib.Omega.{arith}
 use lib.Dec.{T, ltb, ltb→lt, nltb→le, T-not, not-T}
 use lib.ListN.{length}
-use Rattle.meaning.specs.Count.{Bones, some, least, count}
-use Rattle.meaning.specs.Tally.{Tally, weight}
+use Rattle.meaning.specs.Count.{least}
+use Rattle.meaning.specs.Tally.{Tally}
 use Rattle.meaning.specs.Firm.{firm, label, groups}
 use Rattle.meaning.specs.Heap.{Heap, start, Cut, Lawful, LawfulRun, parted, pile, stands, piles, left, finished}
 use Rattle.meaning.proofs.Tests.{decide, is-true, is-false, same-test, taut, so, _⊃_}
 use Rattle.meaning.proofs.Sums.{count-most}
-use Rattle.meaning.proofs.Sets.{Same, some-elim, every-intro, every-elim, least-in}
+use Rattle.meaning.proofs.Sets.{some-elim, every-intro, every-elim, least-in}
 use Rattle.meaning.proofs.Firm.{firm-elim, firm-same, splits-intro}
 use Rattle.meaning.proofs.Heaps.{Named, pile-intro, pile-bone, pile-name, parted-moved, parted-stays, named-start, piles-parted}
 use Rattle.meaning.proofs.Runs.{Reached, reached-start, reached-left, piles-left, piles-start, piles-groups, finished-labels}

@@ -1,17 +1,17 @@
 -- Laws of the loop that cuts to the end: what holds before each search, and that a cut keeps it.
 -- Assumes nothing.
-use Prim.Native.Nat.{ℕ, suc, _+_, _*_, _-_, _/_, _≤_, _<_, zero-le, min}
+use Prim.Native.Nat.{ℕ, _+_, _*_, _-_, _/_, _≤_, _<_, zero-le, min}
 use mathlib.Core.Path.{_≡_, refl, sym, _∙_, ap, subst}
 use mathlib.Core.Logic.{⊎-elim}
 use mathlib.Core.Bool.{Bool, true, false}
 use mathlib.Core.List.{List, [], _∷_, _++_}
 use native.Mathlib.Nat.{le-refl, not-suc-le-zero}
 use native.Mathlib.Omega.{arith}
-use lib.Dec.{T, ltb, ltb→lt, nltb→le}
+use lib.Dec.{ltb, ltb→lt, nltb→le}
 use lib.ListN.{length, take, drop}
 use lib.Seq.{take-take, drop-drop, drop-paste}
 use Rattle.meaning.specs.Tally.{Tally}
-use Rattle.meaning.specs.Heap.{Heap, start, Cut, Lawful, LawfulRun, parted, left, finished}
+use Rattle.meaning.specs.Heap.{Heap, start, Cut, Lawful, LawfulRun, parted, left}
 use Rattle.meaning.proofs.Tests.{decide}
 use Rattle.meaning.proofs.Runs.{left-append, run-append}
 use Rattle.weighing.specs.Side.{heapOf}

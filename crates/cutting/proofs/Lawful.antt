@@ -10,7 +10,7 @@ use native.Mathlib.Nat.{zero-div}
 use native.Mathlib.Numerals.{add-one}
 use native.Mathlib.Omega.{arith}
 use lib.Dec.{T, eqb, ltb, T-not, not-T, ltb→lt, nltb→le}
-use lib.ListN.{length, getD, take, drop, List·getD-eq-default, length-take}
+use lib.ListN.{length, take, drop, List·getD-eq-default, length-take}
 use borrow.Author.Tests.{lt-ltb, le-ltb, eq-eqb, ne-eqb, le-leb, lt-leb, leb-false, eqb-true, not-false}
 use Rattle.meaning.specs.declared.Judged.{Judged}
 use Rattle.meaning.specs.declared.Judged.the-variants.{Accepted, Refused}
@@ -18,7 +18,7 @@ use Rattle.meaning.specs.Judge.{refuse, first}
 use Rattle.meaning.specs.Count.{Bones, some}
 use Rattle.meaning.specs.Tally.{Tally, weight}
 use Rattle.meaning.specs.Heap.{Heap, start, Cut, Lawful, LawfulRun, parted, pile, stands, left}
-use Rattle.meaning.proofs.Tests.{both, left-of, right-of, decide, holds, fails, is-true, is-false, same-test, taut, so, _⊃_}
+use Rattle.meaning.proofs.Tests.{both, left-of, right-of, decide, holds, fails, is-true, is-false, taut, so, _⊃_}
 use Rattle.meaning.proofs.Sets.{some-intro, some-elim}
 use Rattle.meaning.proofs.Heaps.{pile-bone}
 use Rattle.weighing.specs.Side.{sideOf}

@@ -1,7 +1,7 @@
 -- Laws of parting a heap: trying a side bone by bone, its least bone, and names rewritten one bone after the other.
 -- Assumes nothing.
 use Prim.Native.Nat.{ℕ, zero, suc, _+_, _≤_, _<_, suc-le-suc, zero-le}
-use mathlib.Core.Path.{_≡_, refl, sym, _∙_, ap, ap₂, subst, fun-ext}
+use mathlib.Core.Path.{_≡_, refl, sym, _∙_, ap, ap₂, fun-ext}
 use mathlib.Core.Logic.{⊎-elim}
 use mathlib.Core.Bool.{Bool, true, false, cond, not}
 use mathlib.Core.List.{List}
@@ -11,7 +11,7 @@ use lib.Dec.{T, ltb, ltb→lt, nltb→le, T-not, not-T}
 use lib.ListN.{length, getD, set, replicate, length-set}
 use lib.Seq.{getD-set-same, getD-set-other}
 use Rattle.meaning.specs.Count.{Bones, some, least}
-use Rattle.meaning.specs.Heap.{Heap, start, Cut, parted}
+use Rattle.meaning.specs.Heap.{start, Cut, parted}
 use Rattle.meaning.proofs.Tests.{decide, is-true, is-false}
 use Rattle.meaning.proofs.Sets.{some-intro, some-elim, least-is}
 use Rattle.weighing.specs.Side.{heapOf}

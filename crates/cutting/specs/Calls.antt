@@ -1,7 +1,7 @@
 -- What the calls promise: the answer, and every lent byte afterwards.
 use Prim.Native.Nat.{ℕ, zero, suc, _*_, _-_, _/_, _%_}
 use mathlib.Core.Path.{_≡_}
-use mathlib.Core.Bool.{Bool, true, false, cond}
+use mathlib.Core.Bool.{Bool, true, cond}
 use mathlib.Core.List.{List, [], _∷_, _++_}
 use lib.Dec.{T, eqb}
 use lib.ListN.{length, take, drop}
@@ -11,7 +11,7 @@ use Rattle.meaning.specs.declared.Judged.the-variants.{Accepted, Refused}
 use Rattle.meaning.specs.Judge.{first}
 use Rattle.meaning.specs.Tally.{Tally, pairTally}
 use Rattle.meaning.specs.Firm.{label, groups}
-use Rattle.meaning.specs.Heap.{Heap, Cut, start, piles, LawfulRun, left, finished}
+use Rattle.meaning.specs.Heap.{Heap, start, piles, LawfulRun, left, finished}
 use Rattle.cutting.specs.declared.Answer.{Answer}
 use Rattle.cutting.specs.declared.Answer.the-variants.{Gave, Refused as Refused·answer}
 use Rattle.cutting.specs.declared.Thinned.{Thinned}

@@ -1,5 +1,5 @@
 -- The rows of the refusal table that cutting tries, in document 01's order, and the calls' lists of them.
-use Prim.Native.Nat.{ℕ, suc, _+_, _*_, _-_, _/_, _%_}
+use Prim.Native.Nat.{ℕ, suc, _*_, _-_, _/_, _%_}
 use mathlib.Core.Bool.{Bool, not, _&&_, _||_}
 use mathlib.Core.List.{List, [], _∷_, _++_}
 use lib.Dec.{eqb, leb, ltb}

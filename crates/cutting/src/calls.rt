@@ -18,6 +18,7 @@ pub struct Told {
     pub finished: u32,
 }
 
+// A test as a number.
 fn one_if(t: bool) -> u32
     ensures { λ r. ⌜ r ≡ cond t 1 0 ⌝ }
 {

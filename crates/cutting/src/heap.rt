@@ -27,6 +27,7 @@ fn least_of(side: &[u8; 16], n: usize) -> u8
     n as u8
 }
 
+// A bone's name after a cut: the new one where the bone moved.
 fn renamed(moved: bool, new: u8, old: u8) -> u8
     ensures { λ r. ⌜ r ≡ cond moved new old ⌝ }
 {

@@ -11,7 +11,8 @@ use Rattle.meaning.specs.declared.Link.{Link}
 use Rattle.meaning.specs.Heap.{Heap}
 use Rattle.cutting.specs.Record.{entrySize}
 use Rattle.texts.specs.Frame.{line}
-use Rattle.texts.specs.Writers.{two, over, headLine, linkLine, linkLines, cutLines, labelLine, labelLines, closeLine, refusalLine}
+use Rattle.texts.specs.Writers.{two, headLine, linkLine, linkLines, cutLines, labelLine, labelLines, closeLine, refusalLine}
+use Rattle.texts.specs.Writing.{over}
 use Rattle.texts.proofs.Writes.{length-line, onto}
 
 -- lines of one frame

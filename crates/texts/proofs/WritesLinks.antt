@@ -11,7 +11,8 @@ use Rattle.meaning.specs.declared.Link.{Link}
 use Rattle.meaning.specs.declared.Judged.the-variants.{Accepted}
 use Rattle.weighing.specs.Records.{noLink}
 use Rattle.cutting.specs.Record.{entrySize}
-use Rattle.texts.specs.Writers.{over, headLine, linkLine, linkLines, cutLines, closeLine, inputText, inputSize, around}
+use Rattle.texts.specs.Writers.{headLine, linkLine, linkLines, cutLines, closeLine, inputText}
+use Rattle.texts.specs.Writing.{over, inputSize, around}
 use Rattle.texts.proofs.Writes.{over-nil, length-over, onto, before}
 use Rattle.texts.proofs.WritesLines.{length-head, length-links, length-cuts, length-close, links-more}
 

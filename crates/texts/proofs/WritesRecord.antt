@@ -34,7 +34,8 @@ use Rattle.meaning.specs.declared.Link.{Link}
 use Rattle.weighing.proofs.RecordsLink.{R, val, IsLink, made}
 use Rattle.weighing.proofs.RecordsCalls.{calls-to}
 use Rattle.weighing.proofs.RecordsAgain.{LentAgain, lends-again, comes-back}
-use Rattle.texts.specs.Writers.{over, linkLine}
+use Rattle.texts.specs.Writers.{linkLine}
+use Rattle.texts.specs.Writing.{over}
 use Rattle.texts.proofs.Writes.{length-over}
 use Rattle.texts.proofs.WritesLent.{OwnText, textRef}
 use Rattle.texts.proofs.WritesLines.{length-link}

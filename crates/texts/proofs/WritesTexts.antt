@@ -15,7 +15,8 @@ use Rattle.weighing.specs.Side.{heapOf}
 use Rattle.cutting.specs.Record.{entrySize, cutsOf}
 use Rattle.texts.specs.declared.Written.the-variants.{Bytes, Refused}
 use Rattle.texts.specs.Reader.{put}
-use Rattle.texts.specs.Writers.{over, headLine, linkLines, cutLines, labelLines, closeLine, inputText, resultText, Named, wrote, Writes}
+use Rattle.texts.specs.Writers.{headLine, linkLines, cutLines, labelLines, closeLine, inputText, resultText, wrote, Writes}
+use Rattle.texts.specs.Writing.{over, Named}
 use Rattle.texts.proofs.Writes.{onto}
 use Rattle.texts.proofs.WritesLines.{labels-same, length-head, length-links, length-cuts, length-labels, length-close}
 

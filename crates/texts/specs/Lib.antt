@@ -6,3 +6,4 @@ pub mod Walk
 pub mod Judging
 pub mod Storing
 pub mod Writers
+pub mod Writing

@@ -1,5 +1,5 @@
 -- What the writers write: an input text, a result text, and the frame of a refusal.
-use Prim.Native.Nat.{ℕ, zero, suc, _+_, _*_, _/_, _%_, _≤_, _<_}
+use Prim.Native.Nat.{ℕ, zero, suc, _+_, _*_, _/_, _%_}
 use mathlib.Core.Path.{_≡_}
 use mathlib.Core.Bool.{Bool, true, false, not, _&&_}
 use mathlib.Core.List.{List, [], _∷_, _++_}
@@ -12,7 +12,6 @@ use Rattle.meaning.specs.Judge.{refuse, first}
 use Rattle.meaning.specs.Tally.{pairTally}
 use Rattle.meaning.specs.Heap.{Heap, start, left}
 use Rattle.weighing.specs.Links.{tableRows}
-use Rattle.weighing.specs.Side.{heapOf}
 use Rattle.cutting.specs.Record.{entrySize, cutsOf}
 use Rattle.cutting.specs.Rows.{recordRow, recordRows}
 use Rattle.texts.specs.declared.Written.{Written}
@@ -24,10 +23,6 @@ use Rattle.texts.specs.Reader.{put}
 -- a number in two bytes, high byte first
 unfoldable pub two : ℕ → List ℕ
 two m = m / 256 ∷ m % 256 ∷ []
-
--- lent room after a text was written at a place of it; the rest as it was
-unfoldable pub over : List ℕ → ℕ → List ℕ → List ℕ
-over room at text = take at room ++ text ++ drop (at + length text) room
 
 -- 01 head, 02 links, 03 cuts, 04 labels of bones 0 to n − 1, 06 close, 07 refusal
 unfoldable pub headLine : ℕ → ℕ → List ℕ
@@ -89,40 +84,3 @@ wrote (Refused number place) count = Refused·written number place
 pub record Writes (rows : Judged) (text room room′ : List ℕ) (r : Written) : Type 0 where
   pub answer : r ≡ wrote rows (length text)
   pub text-left : room′ ≡ put rows text room
-
--- what the result writer has found when rows 1 to 13 are passed: numbers in range, and the names that the record's cuts leave
-pub record Named (n k : ℕ) (bytes names : List ℕ) : Type 0 where
-  pub bones : n ≤ 128
-  pub threshold : k < 65536
-  pub cuts : length bytes / entrySize ≤ 127
-  pub names-of : (b : ℕ) → b < n → heapOf names b ≡ left n start (cutsOf bytes) b
-
--- what the input writer has found when rows 1 to 6 are passed
-pub record Counts (n k count : ℕ) : Type 0 where
-  pub some-bones : 0 < n
-  pub bones : n ≤ 128
-  pub threshold : k < 65536
-  pub links : count ≤ 4096
-
--- the length of an input text of so many links and cuts
-abbrev pub inputSize : ℕ → ℕ → ℕ
-inputSize count cuts = 20 + 13 * count + 47 * cuts
-
--- rows 9 and 20 of the input writer, of so many links
-unfoldable pub laterRows : ℕ → ℕ → List ℕ → ℕ → List Judged
-laterRows n count bytes room = recordRow n (length bytes) ∷ refuse (ltb room (inputSize count (length bytes / entrySize))) 20 0 ∷ []
-
--- an input text's frames but its links, around the room that so many links take; nothing where refused
-unfoldable pub around : Judged → ℕ → ℕ → ℕ → List ℕ → List ℕ → List ℕ
-around Accepted n k count bytes room =
-    over (over room 0 (headLine n k)) (11 + 13 * count) (cutLines (length bytes / entrySize) bytes ++ closeLine (1 + count + length bytes / entrySize))
-around (Refused number place) n k count bytes room = room
-
-pub record Begun (rows : Judged) (n k count : ℕ) (bytes room room′ : List ℕ) (r : Written) : Type 0 where
-  pub answer : r ≡ wrote rows (inputSize count (length bytes / entrySize))
-  pub text-left : room′ ≡ around rows n k count bytes room
-
--- how many links are then to be written: all, or none where refused
-unfoldable pub linksLeft : Written → ℕ → ℕ
-linksLeft (Bytes written) count = count
-linksLeft (Refused·written number place) count = 0

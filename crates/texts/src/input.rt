@@ -16,7 +16,8 @@ ghost use lib.ListN.{length, take};
 ghost use Rattle.meaning.specs.Judge.{first};
 ghost use Rattle.meaning.specs.declared.Judged.the-variants.{Accepted};
 ghost use Rattle.weighing.specs.Records.{firstOf};
-ghost use Rattle.texts.specs.Writers.{over, linkLine, linkLines, inputText, inputRows, Writes, Counts, inputSize, laterRows, around, Begun, linksLeft};
+ghost use Rattle.texts.specs.Writers.{linkLine, linkLines, inputText, inputRows, Writes};
+ghost use Rattle.texts.specs.Writing.{over, Counts, inputSize, laterRows, around, Begun, linksLeft};
 
 // The length of an input text.
 fn size_of(count: usize, cuts: usize) -> usize

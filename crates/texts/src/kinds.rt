@@ -7,7 +7,8 @@ ghost use Prim.Native.Nat.{_+_, _*_, _/_, _%_, _≤_, _<_};
 ghost use lib.ListN.{length};
 ghost use Rattle.weighing.specs.Side.{heapOf};
 ghost use Rattle.cutting.specs.Record.{entrySize};
-ghost use Rattle.texts.specs.Writers.{over, headLine, linkLine, cutLines, labelLine, labelLines, closeLine, refusalLine};
+ghost use Rattle.texts.specs.Writers.{headLine, linkLine, cutLines, labelLine, labelLines, closeLine, refusalLine};
+ghost use Rattle.texts.specs.Writing.{over};
 
 // The two bytes of a number.
 fn high(m: u64) -> u8

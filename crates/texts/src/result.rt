@@ -13,7 +13,8 @@ ghost use lib.ListN.{length};
 ghost use Rattle.meaning.specs.Judge.{refuse};
 ghost use Rattle.meaning.specs.declared.Judged.the-variants.{Accepted};
 ghost use Rattle.weighing.specs.Records.{firstOf};
-ghost use Rattle.texts.specs.Writers.{over, resultText, Named, Writes};
+ghost use Rattle.texts.specs.Writers.{resultText, Writes};
+ghost use Rattle.texts.specs.Writing.{over, Named};
 
 // The length of a result text.
 fn length_of(n: u64, cuts: usize) -> usize

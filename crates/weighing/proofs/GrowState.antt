@@ -15,7 +15,7 @@ use Rattle.meaning.proofs.Tests.{_⇒_, imp, taut, so, _⊃_, decide, same-test
 use Rattle.meaning.proofs.Sums.{sum-ext, sum-add, sum-one, sum-zero}
 use Rattle.meaning.proofs.Totals.{parts}
 use Rattle.weighing.specs.Scan.{reaches, marked}
-use Rattle.weighing.specs.Grow.{with-bone, beside, degree, two-step, Undivided, joined, Added, Weighed, Spread, Measured, Tied, ByTwo, Chosen, steps, by-way}
+use Rattle.weighing.specs.Grow.{with-bone, beside, degree, two-step, Undivided, joined, Added, Weighed, Spread, Measured, Tied, ByTwo, Chosen, steps}
 use Rattle.weighing.proofs.Adjacency.{Closed}
 use Rattle.weighing.proofs.Merging.{weight-on}
 use Rattle.weighing.proofs.Scanning.{closed-set}
@@ -126,16 +126,14 @@ module _ {n : ℕ} {w : Tally} {k : ℕ} {S : Bones} {p : ℕ} {free degrees tie
       (tied .tie small)
 
   steps-two : (v : ℕ) → T (marked free v) → steps n w (marked free) ties v ≡ two-step n w S (joined S (marked free)) v
-  unfolding steps two-step beside joined by-way
-  steps-two v t = ap₂ _+_ (tie-of v t) (sum-ext n _ _ (λ x h. ap (λ (y : ℕ). cond (marked free x) (cond (eqb x v) 0 (min (w v x) y)) 0) (state .tied x h) ∙ at (marked free x) (S x) (eqb x v) _ (free-in x)))
+  unfolding steps two-step beside joined
+  steps-two v t = ap₂ _+_ (tie-of v t) (sum-ext n _ _ (λ x h. ap₂ (λ (b : Bool) (y : ℕ). cond b (min (w v x) y) 0) (same x) (state .tied x h)))
     where
-      at : (f s e : Bool) (m : ℕ) → (T f → T s) → cond f (cond e 0 m) 0 ≡ cond ((s && not e) && not (s && not f)) m 0
-      at true true true m h = refl
-      at true true false m h = refl
-      at true false e m h = absurd (h tt)
-      at false true true m h = refl
-      at false true false m h = refl
-      at false false e m h = refl
+      same : (x : ℕ) → (marked free x && not (eqb x v)) ≡ ((S x && not (eqb x v)) && not (S x && not (marked free x)))
+      same x =
+          same-test (marked free x && not (eqb x v)) ((S x && not (eqb x v)) && not (S x && not (marked free x)))
+          (taut 3 (λ f s e. (f ⇒ s) ⊃ (f && not e) ⊃ so ((s && not e) && not (s && not f))) tt (marked free x) (S x) (eqb x v) (imp (marked free x) (S x) (free-in x)))
+          (taut 3 (λ f s e. ((s && not e) && not (s && not f)) ⊃ so (f && not e)) tt (marked free x) (S x) (eqb x v))
 
   pub rule-two : (v : ℕ) → v < 128 → ByTwo n w k (marked free) ties v → Undivided n w k S (with-bone (joined S (marked free)) v)
   rule-two v small by =

@@ -17,7 +17,6 @@ pub mod Bits
 pub mod Searching
 pub mod Growing
 pub mod GrowRows
-pub mod GrowSteps
 pub mod GrowState
 pub mod GrowEnds
 pub mod Flowing

@@ -79,24 +79,9 @@ pub record Tied (k : ℕ) (free : Bones) (degrees ties : List ℕ) (bone : ℕ) 
   pub one : bone < 128 → T (free bone)
   pub tie : bone < 128 → (k ≤ getD ties bone 0) ⊎ (getD degrees bone 0 ≤ 2 * getD ties bone 0)
 
--- what a path of two from L to bone v adds by way of bone x: the lesser of its two tallies
-unfoldable pub by-way : Tally → List ℕ → ℕ → ℕ → ℕ
-by-way w ties v x = cond (eqb x v) 0 (min (w v x) (getD ties x 0))
-
--- the free bones that have a tie to L: the others are on no path of two
-unfoldable pub rim : Bones → List ℕ → Bones
-rim free ties x = free x && not (eqb (getD ties x 0) 0)
-
--- the first m of a run list the bones of X below n, so that sums over the run are sums over X
-pub record Listed (n : ℕ) (X : Bones) (run : List ℕ) (m : ℕ) : Type 0 where
-  pub long : length run ≡ 128
-  pub few : m ≤ n
-  pub bones : (i : ℕ) → i < m → getD run i 0 < n
-  pub sums : (f : ℕ → ℕ) → sum m (λ i. f (getD run i 0)) ≡ sum n (λ x. cond (X x) (f x) 0)
-
 -- `two-step` as the runs have it; a free bone for which it is k or more, 128 where there is none
 unfoldable pub steps : ℕ → Tally → Bones → List ℕ → ℕ → ℕ
-steps n w free ties v = getD ties v 0 + sum n (λ x. cond (free x) (by-way w ties v x) 0)
+steps n w free ties v = getD ties v 0 + sum n (λ x. cond (beside free v x) (min (w v x) (getD ties x 0)) 0)
 
 pub record ByTwo (n : ℕ) (w : Tally) (k : ℕ) (free : Bones) (ties : List ℕ) (bone : ℕ) : Type 0 where
   pub one : bone < 128 → T (free bone)

@@ -95,8 +95,8 @@ pub(crate) struct Growth {
     pub(crate) weight: u64,
 }
 
-// Bones join p as long as one is known that can, and the set so grown weighs k or more. At first `others` bones are free, and `own` is the
-// degree of p.
+// Bones join p as long as one is known that can, and the set so grown weighs k or more. `left` bones are free, and p's degree is `own`. The
+// pile's pairs are listed at the first probe: until then `pairs` is 450.
 fn spread(
     table: &[u32; 16384],
     names: &[u8; 128],
@@ -115,10 +115,15 @@ fn spread(
     requires { ⌜ ((x : ℕ) → T (marked (now free) x) → Weighed n (held (now table)) k (pile n (heapOf (now names)) p) (now degrees) x) ⌝ }
     ensures { λ r. ⌜ Reached n (held (now (table .entry))) k (pile n (heapOf (now (names .entry))) p) p (now (free .exit)) (r .light) (r .left) (r .weight) ⌝ }
 {
+    let mut ways = [0u32; 448];
+    let mut next = [0u16; 896];
+    let mut first = [0u16; 128];
+    let mut res = [0u32; 448];
     let mut ties = [0u64; 128];
     add_row(table, n, p, &mut ties);
     let mut out = own;
     let mut left = others;
+    let mut pairs = 450;
     while 0 < left {
         if out < k {
             return Growth {
@@ -127,14 +132,29 @@ fn spread(
                 weight: out,
             };
         }
-        let next = choose(table, names, n, k, p, degrees, &ties, free);
-        let v = next.bone;
-        let light = next.light;
+        let got = choose(
+            table,
+            names,
+            n,
+            k,
+            p,
+            degrees,
+            &ties,
+            &mut ways,
+            &mut next,
+            &mut first,
+            pairs,
+            &mut res,
+            free,
+        );
+        let v = got.bone;
+        let light = got.light;
+        pairs = got.pairs;
         if light {
             return Growth {
                 light: true,
                 left,
-                weight: next.weight,
+                weight: got.weight,
             };
         }
         if 128 <= v {

@@ -13,7 +13,7 @@ ghost use Rattle.weighing.specs.Scan.{Room};
 ghost use Rattle.weighing.specs.Grow.{beside, degree, Added};
 
 // The tally of two bones, the greater first.
-fn pair(table: &[u32; 16384], high: usize, low: usize) -> u64
+pub(crate) fn pair(table: &[u32; 16384], high: usize, low: usize) -> u64
     requires { ⌜ (high < 128) × (low ≤ high) ⌝ }
     ensures { λ r. ⌜ (r ≡ held (now (table .entry)) high low) × (r ≡ held (now (table .entry)) low high) × (r < 2 ^ 32) ⌝ }
 {

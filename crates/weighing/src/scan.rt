@@ -35,7 +35,7 @@ pub(crate) fn bone(x: u8) -> usize
 }
 
 // The tally of two bones.
-pub(crate) fn tally(table: &[u32; 16384], i: usize, j: usize) -> u64
+fn tally(table: &[u32; 16384], i: usize, j: usize) -> u64
     requires { ⌜ (i < 128) × (j < 128) ⌝ }
     ensures { λ r. ⌜ (r ≡ held (now (table .entry)) i j) × (r < 2 ^ 32) ⌝ }
 {

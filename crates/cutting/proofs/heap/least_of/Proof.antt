@@ -1,6 +1,6 @@
 -- `cutting::heap::least_of` meets its contract. The invariant: no bone below b is on the side. Assumes nothing.
 use Prim.Native.Nat.{ℕ, zero-le, _≤_, _<_, _-_}
-use mathlib.Core.Path.{_≡_, sym, _∙_}
+use mathlib.Core.Path.{sym, _∙_}
 use mathlib.Core.Bool.{not}
 use native.Mathlib.Nat.{not-suc-le-zero}
 use native.Mathlib.Omega.{arith}

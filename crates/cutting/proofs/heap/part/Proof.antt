@@ -1,5 +1,5 @@
 -- `cutting::heap::part` meets its contract. The invariant: the names of the bones below b are rewritten. Assumes nothing.
-use Prim.Native.Nat.{ℕ, zero-le, _≤_, _<_, _-_}
+use Prim.Native.Nat.{ℕ, zero-le, _≤_, _-_}
 use mathlib.Core.Path.{_≡_, sym, _∙_, ap, subst}
 use mathlib.Core.Bool.{Bool, cond}
 use native.Mathlib.Omega.{arith}

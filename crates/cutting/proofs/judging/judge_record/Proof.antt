@@ -1,5 +1,5 @@
 -- `cutting::judging::judge_record` meets its contract: row 9, and then the entries. Assumes nothing.
-use mathlib.Core.Path.{_≡_, refl, sym, _∙_, ap}
+use mathlib.Core.Path.{refl, sym, _∙_, ap}
 use native.Mathlib.Omega.{arith}
 use Rattle.meaning.specs.Judge.{first}
 use Rattle.meaning.specs.Heap.{Heap, left}

@@ -1,14 +1,14 @@
 -- `cutting::judging::moves` meets its contract. The invariant: no bone below b is on the side. Assumes nothing.
 use Prim.Native.Nat.{ℕ, zero-le, _≤_, _<_, _-_}
 use mathlib.Core.Path.{sym, _∙_}
-use mathlib.Core.Bool.{not, _&&_}
+use mathlib.Core.Bool.{not}
 use native.Mathlib.Nat.{not-suc-le-zero}
 use native.Mathlib.Omega.{arith}
 use lib.Dec.{T}
 use borrow.Author.Needs.{needs}
 use borrow.Author.Count.{below-more}
 use Rattle.meaning.proofs.Tests.{holds, fails}
-use Rattle.weighing.specs.Side.{heapOf, sideOf}
+use Rattle.weighing.specs.Side.{sideOf}
 use Rattle.cutting.proofs.Parting.{some-here, some-none}
 use Rattle.weighing.proofs.Sides.{on-side}
 use Rattle.cutting.proofs.judging.moves.Statement.{statement}

@@ -1,6 +1,6 @@
 -- `cutting::judging::replay` meets its contract. The invariant: the record's refusal and the heap that it leaves are those of the entries
 -- from i on, in the heap as it stands. Assumes nothing.
-use Prim.Native.Nat.{ℕ, zero-le, _*_, _/_, _-_, _≤_}
+use Prim.Native.Nat.{zero-le, _*_, _/_, _-_, _≤_}
 use mathlib.Core.Path.{_≡_, refl, sym, _∙_, ap}
 use native.Mathlib.Omega.{arith}
 use mathlib.Core.List.{List}
@@ -13,7 +13,6 @@ use Rattle.weighing.specs.Table.{held}
 use Rattle.weighing.proofs.LinksRows.{never-both}
 use Rattle.cutting.specs.Record.{entrySize, cutsIn, cutsOf}
 use Rattle.cutting.specs.Rows.{entriesRows}
-use Rattle.cutting.specs.Replay.{Replayed}
 use Rattle.cutting.proofs.Cuts.{cuts-start, cuts-next, cuts-end}
 use Rattle.cutting.proofs.Lawful.{entries-next, entries-halt, entries-none, left-next, left-none}
 use Rattle.cutting.proofs.judging.replay.Statement.{statement}

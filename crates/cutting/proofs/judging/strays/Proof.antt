@@ -5,7 +5,6 @@ use mathlib.Core.Bool.{not, _&&_}
 use native.Mathlib.Nat.{not-suc-le-zero}
 use native.Mathlib.Omega.{arith}
 use lib.Dec.{T}
-use borrow.Author.Needs.{needs}
 use borrow.Author.Count.{below-more}
 use Rattle.meaning.proofs.Tests.{holds, fails}
 use Rattle.weighing.specs.Side.{heapOf, sideOf}

@@ -53,7 +53,7 @@ use Rattle.weighing.proofs.records.judge_records.Symbol as jud-def
 use Rattle.weighing.proofs.records.judge_records.Symbol.{name as #judge-records}
 use Rattle.weighing.proofs.records.judge_records.Met as jud-thm
 use Rattle.texts.specs.declared.Written.{Written}
-use Rattle.texts.specs.Writers.{laterRows, Begun, linksLeft}
+use Rattle.texts.specs.Writing.{laterRows, Begun, linksLeft}
 use Rattle.texts.proofs.WritesAnswer.{Wn, said, IsWritten, said-so, unit-so, typed-written, made-written}
 use Rattle.texts.proofs.WritesLinks.{linked, linked-long}
 use Rattle.texts.proofs.WritesInput.{judgedInput, counts, begun-long, left-fits, input-done}

@@ -7,7 +7,8 @@ use native.Mathlib.Omega.{arith}
 use lib.ListN.{length, take, drop}
 use Rattle.cutting.specs.Record.{entrySize}
 use Rattle.texts.specs.Frame.{line}
-use Rattle.texts.specs.Writers.{over, cutLines}
+use Rattle.texts.specs.Writers.{cutLines}
+use Rattle.texts.specs.Writing.{over}
 use Rattle.texts.proofs.Writes.{over-nil}
 use Rattle.texts.proofs.WritesLines.{length-part, length-cut, next-cut}
 use Rattle.texts.proofs.kinds.put_cuts.Statement.{statement}

@@ -6,7 +6,8 @@ use mathlib.Core.List.{List, [], _∷_}
 use native.Mathlib.Omega.{arith}
 use lib.ListN.{length, take, drop}
 use Rattle.weighing.specs.Side.{heapOf}
-use Rattle.texts.specs.Writers.{over, labelLine, labelLines}
+use Rattle.texts.specs.Writers.{labelLine, labelLines}
+use Rattle.texts.specs.Writing.{over}
 use Rattle.texts.proofs.Writes.{over-nil}
 use Rattle.texts.proofs.WritesLines.{next-label}
 use Rattle.texts.proofs.kinds.put_labels.Statement.{statement}

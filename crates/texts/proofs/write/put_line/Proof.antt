@@ -6,7 +6,7 @@ use mathlib.Core.List.{[], _∷_}
 use native.Mathlib.Omega.{arith}
 use lib.ListN.{length, length-set}
 use Rattle.texts.specs.Frame.{byteSum, sumByte, hex, line}
-use Rattle.texts.specs.Writers.{over}
+use Rattle.texts.specs.Writing.{over}
 use Rattle.texts.proofs.Writes.{length-line, negated, line-made}
 use Rattle.texts.proofs.write.put_line.Statement.{statement}
 use Rattle.texts.proofs.write.put_line.Tie as tie

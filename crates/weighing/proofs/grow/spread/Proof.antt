@@ -1,36 +1,36 @@
 -- `weighing::grow::spread` meets its contract. The invariant: the set grown so far is not divided, and it is measured.
 -- Assumes nothing.
 use Prim.Native.Nat.{ℕ, _+_, _*_, _-_, _≤_, _<_}
-use mathlib.Core.Path.{_≡_, sym, subst}
+use mathlib.Core.Path.{_≡_, refl, sym, subst}
 use mathlib.Core.Bool.{false}
 use mathlib.Core.List.{List}
 use native.Mathlib.Omega.{arith}
 use lib.Dec.{T}
-use lib.ListN.{getD, set, length-replicate}
+use lib.ListN.{length, getD, set, length-replicate}
 use Rattle.meaning.specs.Count.{Bones}
 use Rattle.meaning.specs.Heap.{pile, stands}
 use Rattle.meaning.proofs.Heaps.{pile-bone}
 use Rattle.weighing.specs.Table.{held}
 use Rattle.weighing.specs.Side.{heapOf}
 use Rattle.weighing.specs.Grow.{Spread, Measured, Reached}
+use Rattle.weighing.specs.Flow.{Ready}
 use Rattle.weighing.proofs.TableHeld.{held-symmetric}
 use Rattle.weighing.proofs.Scanning.{zeros}
+use Rattle.weighing.proofs.WaysListed.{ready-none}
 use Rattle.weighing.proofs.GrowState.{out-fits, out-covers, spread-next, measured-next}
 use Rattle.weighing.proofs.GrowEnds.{beside-below, spread-start, measured-start, light-spread, reached-light, reached-dark}
 use Rattle.weighing.proofs.grow.spread.Statement.{statement}
 use Rattle.weighing.proofs.grow.spread.Tie as tie
-use Rattle.weighing.proofs.grow.spread.Reads as reads
-use Rattle.weighing.proofs.grow.spread.Lts as lts
-use Rattle.weighing.proofs.row.add_row.Reads as add-row-reads
-use Rattle.weighing.proofs.tied.choose.Reads as choose-reads
 
 abbrev Inv-loop : tie.InvT-loop
-Inv-loop table names n k p own others degrees free₀ ties₀ out₀ left₀ free ties out left =
+Inv-loop table names n k p own others degrees free₀ ways₀ next₀ first₀ res₀ ties₀ out₀ left₀ pairs₀ free ways next first res ties out left pairs =
     Spread n (held table) k (pile n (heapOf names) p) p free degrees ties
     × Measured n (held table) (pile n (heapOf names) p) free ties out left
+    × Ready n (held table) k (pile n (heapOf names) p) ways pairs
+    × (length res ≡ 448)
 
 abbrev μ-loop : tie.MeasureT-loop
-μ-loop table names n k p own others degrees free₀ ties₀ out₀ left₀ free ties out left = left
+μ-loop table names n k p own others degrees free₀ ways₀ next₀ first₀ res₀ ties₀ out₀ left₀ pairs₀ free ways next first res ties out left pairs = left
 
 -- the pile, its bones, and that p is one of them
 abbrev pile-of : tie.Start Inv-loop μ-loop → Bones
@@ -53,7 +53,7 @@ loop-holds c =
     let s = c .before .before in
     let start = spread-start (s .args .n) (held (s .args .table .now)) (held-symmetric (s .args .table .now)) (s .args .k) (pile-of s) (s .args .p) (below-of s) (s .pre .0 .0) (standing s) (s .args .free .now) (s .pre .1 .1 .1 .0) in
     let size = measured-start (s .args .n) (held (s .args .table .now)) (held-symmetric (s .args .table .now)) (s .args .k) (pile-of s) (s .args .p) (below-of s) (s .pre .0 .0) (standing s) (s .args .free .now) (s .pre .1 .1 .1 .0) in
-    (start _ (c .add-row .ensures) _ (s .pre .1 .1 .0 .2) (s .pre .1 .1 .1 .1), size _ (c .add-row .ensures) _ _ (s .pre .1 .0 .0) (s .pre .1 .0 .1) (s .pre .1 .1 .0 .0) (s .pre .1 .1 .0 .1))
+    (start _ (c .add-row .ensures) _ (s .pre .1 .1 .0 .2) (s .pre .1 .1 .1 .1), size _ (c .add-row .ensures) _ _ (s .pre .1 .0 .0) (s .pre .1 .0 .1) (s .pre .1 .1 .0 .0) (s .pre .1 .1 .0 .1), ready-none refl (omega arith), refl)
 
 returns : tie.Need-returns Inv-loop μ-loop
 returns c =
@@ -63,23 +63,23 @@ returns c =
 
 choose-requires : tie.Need-choose-requires Inv-loop μ-loop
 choose-requires c κs =
-    let s = c .before .before .before .before .before .before .before in
-    let l = c .before .before .before .before .loop in
-    (s .pre .0, l .inv .0)
+    let s = c .before .before .before .before .before .before .before .before .before .before .before in
+    let l = c .before .before .before .before .before .before .before .before .loop in
+    ((s .pre .0 .0, l .inv .3), (l .inv .0, l .inv .2))
 
 returns-2 : tie.Need-returns-2 Inv-loop μ-loop
 returns-2 c =
-    let s = c .before .before .before .before .before .before .before .before .before in
-    let l = c .before .before .before .before .before .before .loop in
+    let s = c .before .before .before .before .before .before .before .before .before .before .before .before .before in
+    let l = c .before .before .before .before .before .before .before .before .before .before .loop in
     let v = c .before .choose in
-    reached-light (s .args .n) (held (s .args .table .now)) (held-symmetric (s .args .table .now)) (s .args .k) (pile-of s) (s .args .p) (below-of s) (v .ensures .found (c .if2 .taken))
+    reached-light (s .args .n) (held (s .args .table .now)) (held-symmetric (s .args .table .now)) (s .args .k) (pile-of s) (s .args .p) (below-of s) (v .ensures .0 .found (c .if2 .taken))
 
 returns-3 : tie.Need-returns-3 Inv-loop μ-loop
 returns-3 c =
-    let s = c .before .before .before .before .before .before .before .before .before .before in
-    let l = c .before .before .before .before .before .before .before .loop in
+    let s = c .before .before .before .before .before .before .before .before .before .before .before .before .before .before in
+    let l = c .before .before .before .before .before .before .before .before .before .before .before .loop in
     let v = c .before .before .choose in
-    subst (λ (m : List ℕ). Reached (s .args .n) (held (s .args .table .now)) (s .args .k) (pile-of s) (s .args .p) m false (l .left) 0) (sym (v .ensures .same (c .before .if2 .left)))
+    subst (λ (m : List ℕ). Reached (s .args .n) (held (s .args .table .now)) (s .args .k) (pile-of s) (s .args .p) m false (l .left) 0) (sym (v .ensures .0 .same (c .before .if2 .left)))
     (reached-dark (s .args .n) (held (s .args .table .now)) (held-symmetric (s .args .table .now)) (s .args .k) (pile-of s) (s .args .p) (below-of s) (l .inv .0) (l .inv .1))
 
 mul-out : tie.Need-mul-out Inv-loop μ-loop
@@ -90,10 +90,10 @@ element-copy-out-out c = c .if3 .left
 
 add-out : tie.Need-add-out Inv-loop μ-loop
 add-out c =
-    let s = c .before .before .before .before .before .before .before .before .before .before .before in
-    let l = c .before .before .before .before .before .before .before .before .loop in
+    let s = c .before .before .before .before .before .before .before .before .before .before .before .before .before .before .before in
+    let l = c .before .before .before .before .before .before .before .before .before .before .before .before .loop in
     let v = c .before .before .before .choose in
-    omega (arith, out-fits (held-symmetric (s .args .table .now)) (below-of s) (s .pre .0 .0) (l .inv .0) (l .out) (l .left) (l .inv .1) (v .result .bone) (v .ensures .one (c .before .before .if2 .left) (c .before .if3 .left)))
+    omega (arith, out-fits (held-symmetric (s .args .table .now)) (below-of s) (s .pre .0 .0) (l .inv .0) (l .out) (l .left) (l .inv .1) (v .result .bone) (v .ensures .0 .one (c .before .before .if2 .left) (c .before .if3 .left)))
 
 mul-out-2 : tie.Need-mul-out-2 Inv-loop μ-loop
 mul-out-2 c = omega (arith, c .before .if3 .left)
@@ -103,46 +103,47 @@ array-read-out c = c .before .if3 .left
 
 mul-out-3 : tie.Need-mul-out-3 Inv-loop μ-loop
 mul-out-3 c =
-    let s = c .before .before .before .before .before .before .before .before .before .before .before in
-    let l = c .before .before .before .before .before .before .before .before .loop in
+    let s = c .before .before .before .before .before .before .before .before .before .before .before .before .before .before .before in
+    let l = c .before .before .before .before .before .before .before .before .before .before .before .before .loop in
     let v = c .before .before .before .choose in
     omega (arith, l .inv .0 .most (v .result .bone))
 
 sub-out : tie.Need-sub-out Inv-loop μ-loop
 sub-out c =
-    let s = c .before .before .before .before .before .before .before .before .before .before .before in
-    let l = c .before .before .before .before .before .before .before .before .loop in
+    let s = c .before .before .before .before .before .before .before .before .before .before .before .before .before .before .before in
+    let l = c .before .before .before .before .before .before .before .before .before .before .before .before .loop in
     let v = c .before .before .before .choose in
-    out-covers (held-symmetric (s .args .table .now)) (below-of s) (s .pre .0 .0) (l .inv .0) (l .out) (l .left) (l .inv .1) (v .result .bone) (v .ensures .one (c .before .before .if2 .left) (c .before .if3 .left))
+    out-covers (held-symmetric (s .args .table .now)) (below-of s) (s .pre .0 .0) (l .inv .0) (l .out) (l .left) (l .inv .1) (v .result .bone) (v .ensures .0 .one (c .before .before .if2 .left) (c .before .if3 .left))
 
 element-write-free : tie.Need-element-write-free Inv-loop μ-loop
 element-write-free c = c .before .if3 .left
 
 sub-left : tie.Need-sub-left Inv-loop μ-loop
-sub-left c = omega (arith, c .before .before .before .before .before .before .before .loop-test .taken)
+sub-left c = omega (arith, c .before .before .before .before .before .before .before .before .before .before .before .loop-test .taken)
 
 add-row-requires-2 : tie.Need-add-row-requires-2 Inv-loop μ-loop
 add-row-requires-2 c κs =
-    let s = c .before .before .before .before .before .before .before .before .before .before .before .before in
-    let l = c .before .before .before .before .before .before .before .before .before .loop in
+    let s = c .before .before .before .before .before .before .before .before .before .before .before .before .before .before .before .before in
+    let l = c .before .before .before .before .before .before .before .before .before .before .before .before .before .loop in
     let v = c .before .before .before .before .choose in
-    ((s .pre .0 .0, beside-below (s .args .n) (pile-of s) (s .args .p) (below-of s) (v .result .bone) (l .inv .0 .others (v .result .bone) (v .ensures .one (c .before .before .before .if2 .left) (c .before .before .if3 .left)))), record { long = l .inv .0 .ties-long; room = λ x. omega (arith, l .inv .0 .most x) })
+    ((s .pre .0 .0, beside-below (s .args .n) (pile-of s) (s .args .p) (below-of s) (v .result .bone) (l .inv .0 .others (v .result .bone) (v .ensures .0 .one (c .before .before .before .if2 .left) (c .before .before .if3 .left)))), record { long = l .inv .0 .ties-long; room = λ x. omega (arith, l .inv .0 .most x) })
 
 loop-less : tie.Need-loop-less Inv-loop μ-loop
-loop-less c = omega (arith, c .before .before .before .before .before .before .before .before .before .loop-test .taken)
+loop-less c = omega (arith, c .before .before .before .before .before .before .before .before .before .before .before .before .before .loop-test .taken)
 
 loop-again : tie.Need-loop-again Inv-loop μ-loop
 loop-again c =
-    let s = c .before .before .before .before .before .before .before .before .before .before .before .before .before in
-    let l = c .before .before .before .before .before .before .before .before .before .before .loop in
+    let s = c .before .before .before .before .before .before .before .before .before .before .before .before .before .before .before .before .before in
+    let l = c .before .before .before .before .before .before .before .before .before .before .before .before .before .before .loop in
     let v = c .before .before .before .before .before .choose in
     let n = s .args .n in
     let w = held (s .args .table .now) in
     let ties = c .add-row2 .last .1 .1 .1 .0 in
-    subst
+    let grown = subst
     (λ (m : List ℕ). Spread n w (s .args .k) (pile-of s) (s .args .p) (set m (v .result .bone) 0) (s .args .degrees .now) ties × Measured n w (pile-of s) (set m (v .result .bone) 0) ties (l .out + getD (s .args .degrees .now) (v .result .bone) 0 - 2 * getD (l .ties) (v .result .bone) 0) (l .left - 1))
-    (sym (v .ensures .same (c .before .before .before .before .if2 .left)))
-    (spread-next (held-symmetric (s .args .table .now)) (below-of s) (s .pre .0 .0) (l .inv .0) (l .out) (l .left) (l .inv .1) (v .result .bone) (v .ensures .one (c .before .before .before .before .if2 .left) (c .before .before .before .if3 .left)) ties (c .add-row2 .ensures) (v .ensures .joins (c .before .before .before .before .if2 .left) (c .before .before .before .if3 .left)), measured-next (held-symmetric (s .args .table .now)) (below-of s) (s .pre .0 .0) (l .inv .0) (l .out) (l .left) (l .inv .1) (v .result .bone) (v .ensures .one (c .before .before .before .before .if2 .left) (c .before .before .before .if3 .left)) ties (c .add-row2 .ensures))
+    (sym (v .ensures .0 .same (c .before .before .before .before .if2 .left)))
+    (spread-next (held-symmetric (s .args .table .now)) (below-of s) (s .pre .0 .0) (l .inv .0) (l .out) (l .left) (l .inv .1) (v .result .bone) (v .ensures .0 .one (c .before .before .before .before .if2 .left) (c .before .before .before .if3 .left)) ties (c .add-row2 .ensures) (v .ensures .0 .joins (c .before .before .before .before .if2 .left) (c .before .before .before .if3 .left)), measured-next (held-symmetric (s .args .table .now)) (below-of s) (s .pre .0 .0) (l .inv .0) (l .out) (l .left) (l .inv .1) (v .result .bone) (v .ensures .0 .one (c .before .before .before .before .if2 .left) (c .before .before .before .if3 .left)) ties (c .add-row2 .ensures)) in
+    (grown .0, grown .1, v .ensures .1 .0, v .ensures .1 .1)
 
 returns-4 : tie.Need-returns-4 Inv-loop μ-loop
 returns-4 c =

@@ -1,29 +1,19 @@
--- `weighing::tied::step` meets its contract, by which of the two tallies is less.
+-- `weighing::tied::step` meets its contract, by whether x is free and which of the two is less.
 -- Assumes nothing.
-use Prim.Native.Nat.{ℕ, zero-le, min}
-use mathlib.Core.Path.{_≡_, _∙_, ap}
+use Prim.Native.Nat.{ℕ, zero-le, _≤_, min}
 use native.Mathlib.Omega.{arith}
-use lib.Dec.{eqb}
 use lib.ListN.{getD}
 use Rattle.meaning.proofs.Tests.{eq→eqb, ne→neqb}
-use Rattle.weighing.specs.Table.{held}
-use Rattle.weighing.specs.Grow.{by-way}
+use Rattle.weighing.specs.Scan.{marked}
 use Rattle.weighing.proofs.Filling.{cond-yes, cond-no}
 use borrow.Author.Needs.{needs}
 use Rattle.weighing.proofs.tied.step.Statement.{statement}
 use Rattle.weighing.proofs.tied.step.Tie as tie
 use Rattle.weighing.proofs.tied.step.Reads as reads
 use Rattle.weighing.proofs.tied.step.Lts as lts
-use Rattle.weighing.proofs.scan.tally.Reads as tally-reads
 
-returns : tie.Need-returns
-unfolding by-way
-returns c =
-    let a = c .before .args in
-    (cond-yes (eqb (a .x) (a .v)) 0 _ (eq→eqb _ _ (c .if1 .taken)), zero-le)
-
-tally-requires : tie.Need-tally-requires
-tally-requires c κs = search needs
+element-copy-out-if1 : tie.Need-element-copy-out-if1
+element-copy-out-if1 c = search needs
 
 mul-tie : tie.Need-mul-tie
 mul-tie c = search needs
@@ -31,20 +21,25 @@ mul-tie c = search needs
 element-copy-out-tie : tie.Need-element-copy-out-tie
 element-copy-out-tie c = search needs
 
+returns : tie.Need-returns
+unfolding marked
+returns c =
+    let s = c .before .before .before .before in
+    (omega (arith, cond-yes (marked (s .args .free .now) (s .args .x)) (min (s .args .tally) (getD (s .args .ties .now) (s .args .x) 0)) 0 (eq→eqb _ 1 (c .before .before .if1 .taken)), c .if2 .taken), omega arith)
+
 returns-2 : tie.Need-returns-2
-unfolding by-way
+unfolding marked
 returns-2 c =
-    let a = c .before .before .before .before .args in
-    let t = c .before .before .tally in
-    (omega (arith, t .ensures .0, c .if2 .taken, cond-no (eqb (a .x) (a .v)) 0 (min (held (a .table .now) (a .v) (a .x)) (getD (a .ties .now) (a .x) 0)) (ne→neqb _ _ (c .before .before .before .if1 .left))), omega (arith, t .ensures .1))
+    let s = c .before .before .before .before in
+    (omega (arith, cond-yes (marked (s .args .free .now) (s .args .x)) (min (s .args .tally) (getD (s .args .ties .now) (s .args .x) 0)) 0 (eq→eqb _ 1 (c .before .before .if1 .taken)), c .if2 .left), c .if2 .left)
 
 returns-3 : tie.Need-returns-3
-unfolding by-way
+unfolding marked
 returns-3 c =
-    let a = c .before .before .before .before .args in
-    let t = c .before .before .tally in
-    (omega (arith, t .ensures .0, c .if2 .left, cond-no (eqb (a .x) (a .v)) 0 (min (held (a .table .now) (a .v) (a .x)) (getD (a .ties .now) (a .x) 0)) (ne→neqb _ _ (c .before .before .before .if1 .left))), omega (arith, t .ensures .1, c .if2 .left))
+    let s = c .before .before in
+    (cond-no (marked (s .args .free .now) (s .args .x)) (min (s .args .tally) (getD (s .args .ties .now) (s .args .x) 0)) 0 (ne→neqb _ 1 (c .if1 .left)), zero-le)
 
 pub step-spec : {M : Type 1} → statement M
 step-spec =
-    tie.close (tie.spec returns tally-requires mul-tie element-copy-out-tie returns-2 returns-3)
+    tie.close
+    (tie.spec element-copy-out-if1 mul-tie element-copy-out-tie returns returns-2 returns-3)

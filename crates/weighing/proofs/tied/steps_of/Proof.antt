@@ -1,74 +1,90 @@
--- `weighing::tied::steps_of` meets its contract: after i turns the paths by way of the first i bones listed are added.
+-- `weighing::tied::steps_of` meets its contract: after x turns the paths by way of the bones below x are added, but for v itself.
 -- Assumes nothing.
-use Prim.Native.Nat.{ℕ, zero-le, _+_, _*_, _^_, _-_, _≤_}
-use mathlib.Core.Path.{_≡_, refl, _∙_, ap}
+use Prim.Native.Nat.{ℕ, _+_, _*_, _^_, _-_, _≤_, min}
+use mathlib.Core.Path.{_≡_, _∙_, ap}
+use mathlib.Core.Bool.{cond}
+use native.Mathlib.Nat.{le-refl}
 use native.Mathlib.Omega.{arith}
 use lib.ListN.{getD}
 use Rattle.meaning.specs.Count.{sum}
 use Rattle.weighing.specs.Table.{held}
-use Rattle.weighing.specs.Grow.{by-way}
+use Rattle.weighing.specs.Scan.{marked}
+use Rattle.weighing.specs.Grow.{beside, steps}
 use Rattle.weighing.proofs.Attach.{sum-next}
+use Rattle.weighing.proofs.GrowRows.{beside-other, beside-self}
 use Rattle.weighing.proofs.tied.steps_of.Statement.{statement}
 use Rattle.weighing.proofs.tied.steps_of.Tie as tie
 use Rattle.weighing.proofs.tied.steps_of.Reads as reads
 use Rattle.weighing.proofs.tied.steps_of.Lts as lts
-use Rattle.weighing.proofs.scan.bone.Reads as bone-reads
+use Rattle.weighing.proofs.row.pair.Reads as pair-reads
 use Rattle.weighing.proofs.tied.step.Reads as step-reads
+use Rattle.weighing.proofs.tied.steps_below.Reads as steps-below-reads
 
 abbrev Inv-loop : tie.InvT-loop
-Inv-loop table run m ties v total₀ i₀ total i =
-    (i ≤ m)
-    × (total ≡ getD ties v 0 + sum i (λ j. by-way (held table) ties v (getD run j 0)))
-    × (total ≤ 2 ^ 40 + i * 2 ^ 32)
+Inv-loop table free ties n v total₀ x₀ total x = (v + 1 ≤ x) × (x ≤ n) × (total ≡ getD ties v 0 + sum x (λ i. cond (beside (marked free) v i) (min (held table v i) (getD ties i 0)) 0)) × (total ≤ 2 ^ 40 + x * 2 ^ 32)
 
 abbrev μ-loop : tie.MeasureT-loop
-μ-loop table run m ties v total₀ i₀ total i = m - i
+μ-loop table free ties n v total₀ x₀ total x = n - x
 
-mul-total : tie.Need-mul-total Inv-loop μ-loop
-mul-total c = omega arith
+steps-below-requires : tie.Need-steps-below-requires Inv-loop μ-loop
+steps-below-requires c κs = (omega arith, c .pre .2)
 
-element-copy-out-total : tie.Need-element-copy-out-total Inv-loop μ-loop
-element-copy-out-total c = omega arith
+add-x : tie.Need-add-x Inv-loop μ-loop
+add-x c = omega arith
 
 loop-holds : tie.Need-loop-holds Inv-loop μ-loop
-unfolding sum
-loop-holds c = (zero-le, omega arith, omega (arith, c .before .pre .0 .2))
+loop-holds c =
+    let a = c .before .args in
+    let free = marked (a .free .now) in (
+      le-refl _,
+      omega arith,
+      omega (
+        arith,
+        c .steps-below .ensures .0,
+        sum-next (a .v) (λ i. cond (beside free (a .v) i) (min (held (a .table .now) (a .v) i) (getD (a .ties .now) i 0)) 0),
+        beside-self free (a .v) (min (held (a .table .now) (a .v) (a .v)) (getD (a .ties .now) (a .v) 0)),
+      ),
+      omega (arith, c .steps-below .ensures .1),
+    )
 
-element-copy-out-bone : tie.Need-element-copy-out-bone Inv-loop μ-loop
-element-copy-out-bone c = omega arith
-
-bone-requires : tie.Need-bone-requires Inv-loop μ-loop
-bone-requires c κs = tt
+pair-requires : tie.Need-pair-requires Inv-loop μ-loop
+pair-requires c κs = omega arith
 
 step-requires : tie.Need-step-requires Inv-loop μ-loop
-step-requires c κs =
-    let s = c .before .before .before .before .before in
-    (s .pre .0 .1, omega (arith, c .bone .ensures .0, s .pre .1 (c .before .before .before .loop .i) (c .before .before .loop-test .taken)))
+step-requires c κs = omega arith
 
 add-total : tie.Need-add-total Inv-loop μ-loop
-add-total c = omega (arith, c .step .ensures .1)
+add-total c = omega (arith, c .step .ensures .1, c .before .pair .ensures .2)
 
-add-i : tie.Need-add-i Inv-loop μ-loop
-add-i c = omega arith
+add-x-2 : tie.Need-add-x-2 Inv-loop μ-loop
+add-x-2 c = omega arith
 
 loop-less : tie.Need-loop-less Inv-loop μ-loop
 loop-less c = omega arith
 
 loop-again : tie.Need-loop-again Inv-loop μ-loop
 loop-again c =
-    let l = c .before .before .before .before .loop in
-    let a = c .before .before .before .before .before .before .args in (
+    let l = c .before .before .before .loop in
+    let a = c .before .before .before .before .before .args in
+    let free = marked (a .free .now) in (
       omega arith,
-      omega (arith, l .inv .1, sum-next (l .i) (λ j. by-way (held (a .table .now)) (a .ties .now) (a .v) (getD (a .run .now) j 0)), c .step .ensures .0 ∙ ap (by-way (held (a .table .now)) (a .ties .now) (a .v)) (c .before .bone .ensures .0)),
-      omega (arith, c .step .ensures .1),
+      omega arith,
+      omega (
+        arith,
+        l .inv .2,
+        sum-next (l .x) (λ i. cond (beside free (a .v) i) (min (held (a .table .now) (a .v) i) (getD (a .ties .now) i 0)) 0),
+        c .step .ensures .0 ∙ beside-other free (a .v) (l .x) _ (λ q. omega arith) ∙ ap (λ (y : ℕ). cond (beside free (a .v) (l .x)) (min y (getD (a .ties .now) (l .x) 0)) 0) (c .before .pair .ensures .1),
+      ),
+      omega (arith, c .step .ensures .1, c .before .pair .ensures .2),
     )
 
 returns : tie.Need-returns Inv-loop μ-loop
+unfolding steps
 returns c =
     let l = c .before .loop in
     let a = c .before .before .before .args in
-    let all : l .i ≡ a .m = omega arith in
-    l .inv .1 ∙ ap (λ (n : ℕ). getD (a .ties .now) (a .v) 0 + sum n (λ j. by-way (held (a .table .now)) (a .ties .now) (a .v) (getD (a .run .now) j 0))) all
+    let all : l .x ≡ a .n = omega arith in
+    l .inv .2 ∙ ap (λ (m : ℕ). getD (a .ties .now) (a .v) 0 + sum m (λ i. cond (beside (marked (a .free .now)) (a .v) i) (min (held (a .table .now) (a .v) i) (getD (a .ties .now) i 0)) 0)) all
 
 pub steps-of-spec : {M : Type 1} → statement M
 steps-of-spec =
@@ -76,14 +92,13 @@ steps-of-spec =
     (tie.spec
     Inv-loop
     μ-loop
-    mul-total
-    element-copy-out-total
+    steps-below-requires
+    add-x
     loop-holds
-    element-copy-out-bone
-    bone-requires
+    pair-requires
     step-requires
     add-total
-    add-i
+    add-x-2
     loop-less
     loop-again
     returns)
