@@ -14,11 +14,11 @@ use Rattle.meaning.specs.Judge.{refuse, first}
 use Rattle.meaning.specs.Tally.{Tally, pairTally}
 use Rattle.meaning.specs.Firm.{label, groups}
 use Rattle.meaning.specs.Heap.{Heap, start, LawfulRun, left, piles, finished}
-use Rattle.weighing.specs.Links.{tableRows}
-use Rattle.weighing.specs.Table.{held, filled}
-use Rattle.weighing.proofs.LinksBytes.{Short}
-use Rattle.weighing.proofs.LinksRows.{Counted, table-counted, first-accepted, first-refused}
-use Rattle.weighing.proofs.TableHeld.{table-holds}
+use Rattle.pairs.specs.Links.{tableRows}
+use Rattle.pairs.specs.Table.{held, filled}
+use Rattle.pairs.proofs.LinksBytes.{Short}
+use Rattle.pairs.proofs.LinksRows.{Counted, table-counted, first-accepted, first-refused}
+use Rattle.pairs.proofs.TableHeld.{table-holds}
 use Rattle.cutting.specs.declared.Answer.{Answer}
 use Rattle.cutting.specs.declared.Answer.the-variants.{Gave, Refused as Refused·answer}
 use Rattle.cutting.specs.Record.{entrySize, cutsOf}

@@ -15,7 +15,7 @@ use Rattle.meaning.specs.Judge.{first}
 use Rattle.meaning.specs.Tally.{Tally}
 use Rattle.meaning.specs.Firm.{label, groups}
 use Rattle.meaning.specs.Heap.{Heap, start, LawfulRun, left, piles, finished}
-use Rattle.weighing.specs.Side.{heapOf}
+use Rattle.pairs.specs.Side.{heapOf}
 use Rattle.cutting.specs.Record.{entrySize, cutsIn, cutsOf}
 use Rattle.cutting.specs.Rows.{recordRow, recordRows}
 use Rattle.cutting.specs.Finish.{Begun, Ended}

@@ -18,8 +18,8 @@ use Rattle.meaning.specs.Firm.{label, groups}
 use Rattle.meaning.specs.Heap.{start, piles, LawfulRun, left, weights, between, finished}
 use Rattle.meaning.proofs.Tallies.{pairTally-symmetric}
 use Rattle.meaning.proofs.Ends.{weights-between}
-use Rattle.weighing.specs.Links.{tableRows}
-use Rattle.weighing.proofs.LinksRows.{Counted, table-counted}
+use Rattle.pairs.specs.Links.{tableRows}
+use Rattle.pairs.proofs.LinksRows.{Counted, table-counted}
 use Rattle.cutting.specs.declared.Answer.{Answer}
 use Rattle.cutting.specs.declared.Answer.the-variants.{Gave, Refused as Refused·answer}
 use Rattle.cutting.specs.declared.Thinned.{Thinned}

@@ -14,7 +14,7 @@ use Rattle.meaning.specs.Tally.{Tally}
 use Rattle.meaning.specs.Heap.{Heap, start, Cut, Lawful, LawfulRun, parted, left}
 use Rattle.meaning.proofs.Tests.{decide}
 use Rattle.meaning.proofs.Runs.{left-append, run-append}
-use Rattle.weighing.specs.Side.{heapOf}
+use Rattle.pairs.specs.Side.{heapOf}
 use Rattle.weighing.specs.declared.search.Split.{Split}
 use Rattle.weighing.specs.Search.{FirmPiles, Searched, cutOf as splitCut}
 use Rattle.cutting.specs.declared.record.Entry.{Entry}

@@ -9,9 +9,9 @@ use Rattle.meaning.specs.declared.Link.{Link}
 use Rattle.meaning.specs.declared.Judged.{Judged}
 use Rattle.meaning.specs.declared.Judged.the-variants.{Accepted, Refused}
 use Rattle.meaning.specs.Judge.{first}
-use Rattle.weighing.specs.Links.{tableRows}
-use Rattle.weighing.specs.Table.{held, filled}
-use Rattle.weighing.proofs.LinksBytes.{Short}
+use Rattle.pairs.specs.Links.{tableRows}
+use Rattle.pairs.specs.Table.{held, filled}
+use Rattle.pairs.proofs.LinksBytes.{Short}
 use Rattle.cutting.specs.declared.Answer.{Answer}
 use Rattle.cutting.specs.Rows.{labelRow, spaceRow, recordRows}
 use Rattle.cutting.specs.Calls.{answered, settled, written, Checked, Checking, Recorded, Grouped, Grouping}
@@ -19,7 +19,7 @@ use Rattle.cutting.specs.Record.{cutsOf}
 use Rattle.meaning.specs.Tally.{pairTally}
 use Rattle.meaning.specs.Heap.{start, left, piles, finished}
 use Rattle.meaning.specs.Firm.{label, groups}
-use Rattle.weighing.proofs.LinksRows.{never-both}
+use Rattle.pairs.proofs.LinksRows.{never-both}
 use Rattle.cutting.proofs.Carried.{filled-counted, filled-alike, checked-alike, checking-core, checking-stop, grouped-alike, grouping-core, grouping-stop}
 
 module _ (n k : ℕ) (good : Bool) (links : List Link) (j : Judged) (judged : j ≡ first (tableRows n k good links)) where

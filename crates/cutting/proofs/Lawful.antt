@@ -21,10 +21,10 @@ use Rattle.meaning.specs.Heap.{Heap, start, Cut, Lawful, LawfulRun, parted, pil
 use Rattle.meaning.proofs.Tests.{both, left-of, right-of, decide, holds, fails, is-true, is-false, taut, so, _⊃_}
 use Rattle.meaning.proofs.Sets.{some-intro, some-elim}
 use Rattle.meaning.proofs.Heaps.{pile-bone}
-use Rattle.weighing.specs.Side.{sideOf}
+use Rattle.pairs.specs.Side.{sideOf}
 use Rattle.cutting.specs.Record.{entrySize, entryOf, cutOf, cutsIn, cutsOf}
 use Rattle.cutting.specs.Rows.{astray, entryRows, entriesRows, recordRow, recordRows}
-use Rattle.weighing.proofs.LinksRows.{never-both, first-accepted, first-refused, accepted-left, accepted-right}
+use Rattle.pairs.proofs.LinksRows.{never-both, first-accepted, first-refused, accepted-left, accepted-right}
 
 -- ---- sides of 128 bits
 

@@ -14,7 +14,7 @@ use Rattle.meaning.specs.Count.{Bones, some, least}
 use Rattle.meaning.specs.Heap.{start, Cut, parted}
 use Rattle.meaning.proofs.Tests.{decide, is-true, is-false}
 use Rattle.meaning.proofs.Sets.{some-intro, some-elim, least-is}
-use Rattle.weighing.specs.Side.{heapOf}
+use Rattle.pairs.specs.Side.{heapOf}
 use Rattle.cutting.proofs.Lawful.{Narrow}
 
 -- the least bone of a side: the first that is on it; and n where none is

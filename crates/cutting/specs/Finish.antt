@@ -6,7 +6,7 @@ use lib.Dec.{T}
 use lib.ListN.{length, take, drop}
 use Rattle.meaning.specs.Tally.{Tally}
 use Rattle.meaning.specs.Heap.{start, LawfulRun, left, finished}
-use Rattle.weighing.specs.Side.{heapOf}
+use Rattle.pairs.specs.Side.{heapOf}
 use Rattle.cutting.specs.Record.{entrySize, cutsIn}
 
 -- the first cuts of the space are a lawful run that leaves the heap that the names mean; and there is room for all that may come

@@ -6,7 +6,7 @@ use lib.Dec.{ltb}
 use lib.ListN.{length, getD, take, drop, replicate}
 use lib.Seq.{paste}
 use Rattle.meaning.specs.Heap.{Cut}
-use Rattle.weighing.specs.Side.{sideOf}
+use Rattle.pairs.specs.Side.{sideOf}
 use Rattle.cutting.specs.declared.record.Entry.{Entry}
 
 -- the entry size, in bytes

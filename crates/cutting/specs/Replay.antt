@@ -7,7 +7,7 @@ use Rattle.meaning.specs.declared.Judged.{Judged}
 use Rattle.meaning.specs.declared.Judged.the-variants.{Accepted}
 use Rattle.meaning.specs.Judge.{first}
 use Rattle.meaning.specs.Heap.{Heap}
-use Rattle.weighing.specs.Side.{heapOf}
+use Rattle.pairs.specs.Side.{heapOf}
 
 pub record Replayed (rows : List Judged) (after : Heap) (names : List ℕ) (r : Judged) : Type 0 where
   pub judged : r ≡ first rows

@@ -10,7 +10,7 @@ use Rattle.meaning.specs.Judge.{refuse}
 use Rattle.meaning.specs.Count.{Bones, some}
 use Rattle.meaning.specs.Tally.{Tally, pairTally, weight}
 use Rattle.meaning.specs.Heap.{Heap, start, pile, stands, Cut, parted}
-use Rattle.weighing.specs.Links.{tableRows}
+use Rattle.pairs.specs.Links.{tableRows}
 use Rattle.cutting.specs.Record.{entrySize, cutsOf}
 
 -- 7: label space shorter than n. 8: record space shorter than n − 1 entries

@@ -11,9 +11,9 @@ ghost use mathlib.Core.List.{_∷_};
 ghost use Prim.Native.Nat.{_≤_, _<_};
 ghost use lib.ListN.{length};
 ghost use Rattle.meaning.specs.Heap.{piles, finished as finishedRun};
-ghost use Rattle.weighing.specs.Links.{whole, linksOf};
-ghost use Rattle.weighing.specs.Side.{heapOf};
-ghost use Rattle.weighing.specs.Table.{held};
+ghost use Rattle.pairs.specs.Links.{whole, linksOf};
+ghost use Rattle.pairs.specs.Side.{heapOf};
+ghost use Rattle.pairs.specs.Table.{held};
 ghost use Rattle.cutting.specs.Rows.{labelRow, recordRows};
 ghost use Rattle.cutting.specs.Calls.{written, Checked, Checking};
 

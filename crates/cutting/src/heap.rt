@@ -8,7 +8,7 @@ ghost use lib.Dec.{eqb};
 ghost use lib.ListN.{length, getD};
 ghost use Rattle.meaning.specs.Count.{least};
 ghost use Rattle.meaning.specs.Heap.{parted, piles};
-ghost use Rattle.weighing.specs.Side.{heapOf, sideOf};
+ghost use Rattle.pairs.specs.Side.{heapOf, sideOf};
 ghost use Rattle.cutting.specs.Record.{cutOf};
 ghost use Rattle.cutting.specs.Calls.{written};
 

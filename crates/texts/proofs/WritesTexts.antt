@@ -11,7 +11,7 @@ use lib.ListN.{length, drop, length-append}
 use Rattle.meaning.specs.declared.Link.{Link}
 use Rattle.meaning.specs.Judge.{refuse}
 use Rattle.meaning.specs.Heap.{Heap, start, left}
-use Rattle.weighing.specs.Side.{heapOf}
+use Rattle.pairs.specs.Side.{heapOf}
 use Rattle.cutting.specs.Record.{entrySize, cutsOf}
 use Rattle.texts.specs.declared.Written.the-variants.{Bytes, Refused}
 use Rattle.texts.specs.Reader.{put}

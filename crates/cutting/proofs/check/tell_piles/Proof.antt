@@ -1,7 +1,7 @@
 -- `cutting::check::tell_piles` meets its contract. Assumes nothing.
 use mathlib.Core.Path.{ap₂}
-use Rattle.weighing.specs.Side.{heapOf}
-use Rattle.weighing.specs.Table.{held}
+use Rattle.pairs.specs.Side.{heapOf}
+use Rattle.pairs.specs.Table.{held}
 use Rattle.cutting.specs.declared.Answer.the-variants.{Gave}
 use Rattle.cutting.proofs.Finish.{searched-finished}
 use borrow.Author.Needs.{needs}

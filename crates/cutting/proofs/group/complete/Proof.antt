@@ -6,7 +6,7 @@ use mathlib.Core.List.{List}
 use native.Mathlib.Omega.{arith}
 use lib.ListN.{length}
 use lib.Seq.{paste}
-use Rattle.weighing.specs.Table.{held}
+use Rattle.pairs.specs.Table.{held}
 use Rattle.cutting.specs.declared.Answer.the-variants.{Gave}
 use Rattle.cutting.specs.Record.{entrySize}
 use Rattle.cutting.specs.Finish.{Begun, Ended}

@@ -6,8 +6,8 @@ use mathlib.Core.List.{List}
 use native.Mathlib.Omega.{arith}
 use borrow.Author.Needs.{needs}
 use borrow.Author.Tests.{not-true, not-false}
-use Rattle.weighing.specs.Side.{heapOf}
-use Rattle.weighing.specs.Table.{held}
+use Rattle.pairs.specs.Side.{heapOf}
+use Rattle.pairs.specs.Table.{held}
 use Rattle.weighing.specs.Search.{cutOf as splitCut}
 use Rattle.cutting.proofs.Going.{Found, searched-light, searched-none, Going, going-start, going-room, going-next, going-end}
 use Rattle.cutting.proofs.group.finish.Statement.{statement}

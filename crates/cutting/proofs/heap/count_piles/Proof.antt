@@ -5,7 +5,7 @@ use mathlib.Core.Bool.{cond}
 use native.Mathlib.Omega.{arith}
 use lib.Dec.{eqb}
 use Rattle.meaning.specs.Count.{sum}
-use Rattle.weighing.specs.Side.{heapOf}
+use Rattle.pairs.specs.Side.{heapOf}
 use Rattle.cutting.proofs.Names.{piles-heads, sum-next, heads-most}
 use borrow.Author.Needs.{needs}
 use mathlib.Core.List.{List}

@@ -8,8 +8,8 @@ use lib.Dec.{T}
 use borrow.Author.Needs.{needs}
 use borrow.Author.Count.{below-more}
 use Rattle.meaning.proofs.Tests.{holds, fails}
-use Rattle.weighing.specs.Side.{sideOf}
-use Rattle.weighing.proofs.Sides.{on-side}
+use Rattle.pairs.specs.Side.{sideOf}
+use Rattle.pairs.proofs.Sides.{on-side}
 use Rattle.cutting.proofs.Parting.{least-here, least-none}
 use Rattle.cutting.proofs.heap.least_of.Statement.{statement}
 use Rattle.cutting.proofs.heap.least_of.Tie as tie

@@ -5,8 +5,8 @@ use mathlib.Core.Bool.{Bool, cond}
 use native.Mathlib.Omega.{arith}
 use lib.ListN.{length, getD, length-map}
 use borrow.Author.Needs.{needs}
-use Rattle.weighing.specs.Side.{sideOf}
-use Rattle.weighing.proofs.Sides.{on-side}
+use Rattle.pairs.specs.Side.{sideOf}
+use Rattle.pairs.proofs.Sides.{on-side}
 use Rattle.cutting.specs.Record.{cutOf}
 use Rattle.cutting.proofs.Lawful.{narrow-side}
 use Rattle.cutting.proofs.Parting.{Renamed, renamed-start, renamed-next, renamed-end}

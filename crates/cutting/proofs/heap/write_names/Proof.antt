@@ -4,7 +4,7 @@ use mathlib.Core.Path.{_≡_, refl, _∙_, ap, ap₂}
 use mathlib.Core.List.{List}
 use native.Mathlib.Omega.{arith}
 use lib.ListN.{length, set, length-set}
-use Rattle.weighing.specs.Side.{heapOf}
+use Rattle.pairs.specs.Side.{heapOf}
 use Rattle.cutting.specs.Calls.{names, written}
 use Rattle.cutting.proofs.Names.{written-next}
 use Rattle.cutting.proofs.heap.write_names.Statement.{statement}

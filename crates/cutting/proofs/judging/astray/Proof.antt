@@ -3,7 +3,7 @@ use native.Mathlib.Omega.{arith}
 use borrow.Author.Tests.{not-true, not-false}
 -- `cutting::judging::astray` meets its contract. Assumes nothing.
 use mathlib.Core.Path.{sym, _∙_}
-use Rattle.weighing.proofs.Sides.{on-side}
+use Rattle.pairs.proofs.Sides.{on-side}
 use borrow.Author.Needs.{needs}
 use Rattle.cutting.proofs.judging.astray.Statement.{statement}
 use Rattle.cutting.proofs.judging.astray.Tie as tie

@@ -1,8 +1,8 @@
 use mathlib.Core.Bool.{true, false}
 use Rattle.meaning.specs.Tally.{weight}
 use Rattle.meaning.specs.Heap.{stands, pile}
-use Rattle.weighing.specs.Side.{heapOf, sideOf}
-use Rattle.weighing.specs.Table.{held}
+use Rattle.pairs.specs.Side.{heapOf, sideOf}
+use Rattle.pairs.specs.Table.{held}
 use Rattle.cutting.specs.Rows.{astray}
 use Rattle.cutting.proofs.Lawful.{stands-bone}
 -- `cutting::judging::judge_entry` meets its contract: the rows are tried in turn. Assumes nothing.

@@ -3,8 +3,8 @@ use mathlib.Core.Path.{refl, sym, _∙_, ap}
 use native.Mathlib.Omega.{arith}
 use Rattle.meaning.specs.Judge.{first}
 use Rattle.meaning.specs.Heap.{Heap, left}
-use Rattle.weighing.specs.Table.{held}
-use Rattle.weighing.proofs.LinksRows.{never-both}
+use Rattle.pairs.specs.Table.{held}
+use Rattle.pairs.proofs.LinksRows.{never-both}
 use Rattle.cutting.specs.Record.{cutsOf}
 use Rattle.cutting.specs.Rows.{entriesRows}
 use Rattle.cutting.proofs.Lawful.{record-broken, record-long, record-fits}

@@ -8,9 +8,9 @@ use lib.Dec.{T}
 use borrow.Author.Needs.{needs}
 use borrow.Author.Count.{below-more}
 use Rattle.meaning.proofs.Tests.{holds, fails}
-use Rattle.weighing.specs.Side.{sideOf}
+use Rattle.pairs.specs.Side.{sideOf}
 use Rattle.cutting.proofs.Parting.{some-here, some-none}
-use Rattle.weighing.proofs.Sides.{on-side}
+use Rattle.pairs.proofs.Sides.{on-side}
 use Rattle.cutting.proofs.judging.moves.Statement.{statement}
 use Rattle.cutting.proofs.judging.moves.Tie as tie
 

@@ -1,7 +1,7 @@
 -- `cutting::judging::outside` meets its contract. Assumes nothing.
 use borrow.Author.Tests.{lt-ltb, le-ltb}
 use Rattle.meaning.specs.Heap.{pile}
-use Rattle.weighing.specs.Side.{heapOf}
+use Rattle.pairs.specs.Side.{heapOf}
 use borrow.Author.Needs.{needs}
 use Rattle.cutting.proofs.judging.outside.Statement.{statement}
 use Rattle.cutting.proofs.judging.outside.Tie as tie

@@ -8,9 +8,9 @@ use lib.ListN.{length, drop}
 use borrow.Author.Needs.{needs}
 use Rattle.meaning.specs.Judge.{first}
 use Rattle.meaning.specs.Heap.{Cut, left}
-use Rattle.weighing.specs.Side.{heapOf}
-use Rattle.weighing.specs.Table.{held}
-use Rattle.weighing.proofs.LinksRows.{never-both}
+use Rattle.pairs.specs.Side.{heapOf}
+use Rattle.pairs.specs.Table.{held}
+use Rattle.pairs.proofs.LinksRows.{never-both}
 use Rattle.cutting.specs.Record.{entrySize, cutsIn, cutsOf}
 use Rattle.cutting.specs.Rows.{entriesRows}
 use Rattle.cutting.proofs.Cuts.{cuts-start, cuts-next, cuts-end}

@@ -1,7 +1,7 @@
 -- `cutting::judging::stands` meets its contract. Assumes nothing.
 use borrow.Author.Tests.{lt-ltb, le-ltb}
 use Rattle.meaning.specs.Heap.{stands, pile}
-use Rattle.weighing.specs.Side.{heapOf}
+use Rattle.pairs.specs.Side.{heapOf}
 use borrow.Author.Needs.{needs}
 use Rattle.cutting.proofs.judging.stands.Statement.{statement}
 use Rattle.cutting.proofs.judging.stands.Tie as tie

@@ -2,8 +2,8 @@
 use mathlib.Core.Path.{_≡_, sym, _∙_}
 use mathlib.Core.Bool.{true, false}
 use native.Mathlib.Omega.{arith}
-use Rattle.weighing.specs.Side.{sideOf}
-use Rattle.weighing.proofs.Sides.{on-side}
+use Rattle.pairs.specs.Side.{sideOf}
+use Rattle.pairs.proofs.Sides.{on-side}
 use borrow.Author.Needs.{needs}
 use Rattle.cutting.proofs.judging.stray.Statement.{statement}
 use Rattle.cutting.proofs.judging.stray.Tie as tie

@@ -7,7 +7,7 @@ use native.Mathlib.Omega.{arith}
 use lib.Dec.{T}
 use borrow.Author.Count.{below-more}
 use Rattle.meaning.proofs.Tests.{holds, fails}
-use Rattle.weighing.specs.Side.{heapOf, sideOf}
+use Rattle.pairs.specs.Side.{heapOf, sideOf}
 use Rattle.cutting.proofs.Parting.{some-here, some-none}
 use Rattle.meaning.specs.Heap.{pile}
 use Rattle.cutting.proofs.judging.strays.Statement.{statement}

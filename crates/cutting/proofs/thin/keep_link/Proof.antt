@@ -5,7 +5,7 @@ use native.Mathlib.Omega.{arith}
 use lib.ListN.{length, take, drop, length-take, length-drop}
 use lib.Seq.{paste}
 use borrow.Author.Tests.{not-true, not-false}
-use Rattle.weighing.specs.Links.{linkAt}
+use Rattle.pairs.specs.Links.{linkAt}
 use Rattle.cutting.proofs.Keeping.{keeps-not, keeps-it}
 use borrow.Author.Needs.{needs}
 use Rattle.cutting.proofs.thin.keep_link.Statement.{statement}

@@ -39,8 +39,8 @@ use denote.Triple.Walked.{says, Stays, stay-none-slice, gave-slice, walkOf, ends
 use denote.Exit.{yes}
 use Rattle.meaning.specs.declared.Link.{Link}
 use Rattle.meaning.specs.Judge.{first as first-of}
-use Rattle.weighing.proofs.RecordsLink.{R}
-use Rattle.weighing.proofs.RecordsCalls.{calls-to, calls-plain, calls-over}
+use Rattle.lent.proofs.RecordsLink.{R}
+use Rattle.lent.proofs.RecordsCalls.{calls-to, calls-plain, calls-over}
 use Rattle.cutting.specs.Record.{entrySize}
 use Rattle.texts.specs.declared.Reading.{Reading}
 use Rattle.texts.specs.Lines.{linesOf}

@@ -15,22 +15,23 @@ use Rattle.meaning.specs.Firm.{firm}
 use Rattle.meaning.specs.Heap.{Heap, pile, stands}
 use Rattle.meaning.proofs.Heaps.{pile-intro, pile-bone, pile-name}
 use Rattle.weighing.specs.declared.search.Split.{Split}
-use Rattle.weighing.specs.Table.{held}
-use Rattle.weighing.specs.Side.{heapOf, sideOf}
+use Rattle.pairs.specs.Table.{held}
+use Rattle.pairs.specs.Side.{heapOf, sideOf}
 use Rattle.weighing.specs.Search.{cutOf, FirmPiles, Searched}
-use Rattle.weighing.specs.Scan.{marked, blocks}
-use Rattle.weighing.specs.Grow.{Known}
-use Rattle.weighing.proofs.Merging.{kept-one}
-use Rattle.weighing.proofs.Scanning.{zeros}
-use Rattle.weighing.proofs.Searching.{lawful-side, firm-none, firm-more, firm-all}
-use Rattle.weighing.proofs.GrowEnds.{known-passed}
+use Rattle.growing.specs.Blocks.{blocks}
+use Rattle.pairs.specs.Marks.{marked}
+use Rattle.growing.specs.Grow.{Known}
+use Rattle.growing.proofs.Merging.{kept-one}
+use Rattle.growing.proofs.Seen.{seen-intro}
+use Rattle.pairs.proofs.Filling.{zeros}
+use Rattle.weighing.proofs.Searching.{known-passed, lawful-side, firm-none, firm-more, firm-all}
 use Rattle.weighing.proofs.search.search.Statement.{statement}
 use Rattle.weighing.proofs.search.search.Tie as tie
 use Rattle.weighing.proofs.search.search.Reads as reads
 use Rattle.weighing.proofs.search.search.Lts as lts
 use Rattle.weighing.proofs.pass.pass.Reads as pass-reads
-use Rattle.weighing.proofs.scan.bone.Reads as bone-reads
-use Rattle.weighing.proofs.grow.grow.Reads as grow-reads
+use Rattle.pairs.proofs.numbers.bone.Reads as bone-reads
+use Rattle.growing.proofs.grow.grow.Reads as grow-reads
 use Rattle.weighing.proofs.search.at_most.Reads as at-most-reads
 use Rattle.weighing.proofs.moved.side_of.Reads as side-of-reads
 
@@ -86,10 +87,18 @@ standing c =
 grow-requires : tie.Need-grow-requires Inv-loop μ-loop Inv-piles μ-piles
 grow-requires c κs =
     let i = c .before .before .before .before .before .before .piles .inv in
-    ((omega (arith, c .before .before .before .before .before .before .before .at-most .ensures), i .0, i .1), (i .2, standing (c .before .before)))
+    (i .0, i .1)
 
 loop-holds : tie.Need-loop-holds Inv-loop μ-loop Inv-piles μ-piles
-loop-holds c = (refl, c .grow .ensures)
+unfolding heapOf
+loop-holds c =
+    let s = c .before .before .before in
+    let bones = s .before .before .before .before .before .at-most in (
+      refl,
+      c .grow .ensures .0
+          (seen-intro (bones .result) (heapOf (s .before .before .before .before .before .before .args .names .now)) (s .before .before .before .before .piles .p) (omega (arith, bones .ensures)) (s .before .before .before .piles-test .taken)
+          (sym (s .before .bone .ensures .0) ∙ s .if1 .taken)),
+    )
 
 side-of-requires : tie.Need-side-of-requires Inv-loop μ-loop Inv-piles μ-piles
 side-of-requires c κs = (
