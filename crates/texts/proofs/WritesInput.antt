@@ -19,7 +19,7 @@ use Rattle.cutting.specs.Record.{entrySize}
 use Rattle.cutting.specs.Rows.{recordRow}
 use Rattle.texts.specs.declared.Written.{Written}
 use Rattle.texts.specs.declared.Written.the-variants.{Bytes, Refused as Refused·written}
-use Rattle.texts.specs.Reader.{put}
+use Rattle.reading.specs.Reader.{put}
 use Rattle.texts.specs.Writers.{headLine, cutLines, closeLine, inputText, inputRows, wrote, Writes}
 use Rattle.texts.specs.Writing.{over, Counts, inputSize, laterRows, around, Begun, linksLeft}
 use Rattle.texts.proofs.Writes.{length-over}

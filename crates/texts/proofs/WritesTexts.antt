@@ -14,7 +14,7 @@ use Rattle.meaning.specs.Heap.{Heap, start, left}
 use Rattle.pairs.specs.Side.{heapOf}
 use Rattle.cutting.specs.Record.{entrySize, cutsOf}
 use Rattle.texts.specs.declared.Written.the-variants.{Bytes, Refused}
-use Rattle.texts.specs.Reader.{put}
+use Rattle.reading.specs.Reader.{put}
 use Rattle.texts.specs.Writers.{headLine, linkLines, cutLines, labelLines, closeLine, inputText, resultText, wrote, Writes}
 use Rattle.texts.specs.Writing.{over, Named}
 use Rattle.texts.proofs.Writes.{onto}

@@ -16,9 +16,9 @@ use Rattle.cutting.specs.Record.{entrySize, cutsOf}
 use Rattle.cutting.specs.Rows.{recordRow, recordRows}
 use Rattle.texts.specs.declared.Written.{Written}
 use Rattle.texts.specs.declared.Written.the-variants.{Bytes, Refused as Refused·written}
-use Rattle.texts.specs.Frame.{line}
-use Rattle.texts.specs.Lines.{Line, kind}
-use Rattle.texts.specs.Reader.{put}
+use Rattle.reading.specs.Frame.{line}
+use Rattle.reading.specs.Lines.{Line, kind}
+use Rattle.reading.specs.Reader.{put}
 
 -- a number in two bytes, high byte first
 unfoldable pub two : ℕ → List ℕ

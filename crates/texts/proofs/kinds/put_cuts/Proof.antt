@@ -6,7 +6,7 @@ use mathlib.Core.List.{List, [], _∷_}
 use native.Mathlib.Omega.{arith}
 use lib.ListN.{length, take, drop}
 use Rattle.cutting.specs.Record.{entrySize}
-use Rattle.texts.specs.Frame.{line}
+use Rattle.reading.specs.Frame.{line}
 use Rattle.texts.specs.Writers.{cutLines}
 use Rattle.texts.specs.Writing.{over}
 use Rattle.texts.proofs.Writes.{over-nil}
