@@ -12,7 +12,7 @@ use lib.Seq.{length-take-le, drop-drop, getD-take, getD-drop}
 use Rattle.meaning.specs.declared.Link.{Link}
 use Rattle.meaning.specs.declared.Judged.{Judged}
 use Rattle.meaning.specs.Judge.{first}
-use Rattle.cutting.specs.Record.{entrySize}
+use Rattle.heaps.specs.Record.{entrySize}
 use Rattle.texts.specs.declared.stage.Stage.{Stage}
 use Rattle.texts.specs.declared.judge.Progress.{Progress}
 use Rattle.texts.specs.Frame.{payloads}

@@ -5,7 +5,7 @@ use Rattle.weighing.specs.Links.{linksOf}
 use Rattle.weighing.specs.Side.{heapOf}
 use Rattle.weighing.proofs.LinksBytes.{length-linksOf}
 use Rattle.weighing.proofs.LinksRows.{links-accepted, links-proper, propers-more}
-use Rattle.cutting.proofs.Parting.{heap-start}
+use Rattle.heaps.proofs.Parting.{heap-start}
 use Rattle.cutting.proofs.Keeping.{kept-same, kept-most, links-short, links-fit, thins-refused, thins-accepted}
 use borrow.Author.Needs.{needs}
 use Rattle.cutting.proofs.thin.thin_table.Statement.{statement}
