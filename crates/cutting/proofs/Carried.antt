@@ -21,9 +21,11 @@ use Rattle.pairs.proofs.LinksRows.{Counted, table-counted, first-accepted, firs
 use Rattle.pairs.proofs.TableHeld.{table-holds}
 use Rattle.cutting.specs.declared.Answer.{Answer}
 use Rattle.cutting.specs.declared.Answer.the-variants.{Gave, Refused as Refused·answer}
-use Rattle.cutting.specs.Record.{entrySize, cutsOf}
-use Rattle.cutting.specs.Rows.{labelRow, spaceRow, recordRow, recordRows, checkingRows, groupingRows}
-use Rattle.cutting.specs.Calls.{answered, settled, written, Checked, Continued, Recorded, Grouped}
+use Rattle.heaps.specs.Record.{entrySize, cutsOf}
+use Rattle.heaps.specs.Rows.{recordRow, recordRows}
+use Rattle.cutting.specs.Rows.{labelRow, spaceRow, checkingRows, groupingRows}
+use Rattle.heaps.specs.Names.{settled, written}
+use Rattle.cutting.specs.Calls.{answered, Checked, Continued, Recorded, Grouped}
 use Rattle.cutting.proofs.Alike.{Alike, label-alike, groups-alike, finished-alike, entries-alike, run-alike}
 
 module _ (n : ℕ) (v w : Tally) (alike : Alike n v w) (k : ℕ) where

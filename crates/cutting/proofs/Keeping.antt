@@ -23,7 +23,8 @@ use Rattle.pairs.proofs.LinksRows.{Proper, Propers, first-accepted, first-refus
 use Rattle.cutting.specs.declared.Thinned.{Thinned}
 use Rattle.cutting.specs.declared.Thinned.the-variants.{Kept, Refused as Refused·thinned}
 use Rattle.cutting.specs.Rows.{linkRow, thinningRows}
-use Rattle.cutting.specs.Calls.{settled, kept, linkBytes, over, keeping, Thins}
+use Rattle.heaps.specs.Names.{settled}
+use Rattle.cutting.specs.Calls.{kept, linkBytes, over, keeping, Thins}
 use Rattle.cutting.specs.Thin.{Keeps}
 use Rattle.cutting.proofs.Alike.{Alike, label-alike}
 

@@ -13,7 +13,8 @@ ghost use Prim.Native.Nat.{_≤_, _<_};
 ghost use lib.ListN.{length};
 ghost use Rattle.meaning.specs.declared.Judged.the-variants.{Accepted};
 ghost use Rattle.pairs.specs.Table.{held};
-ghost use Rattle.cutting.specs.Rows.{labelRow, spaceRow, recordRows};
+ghost use Rattle.heaps.specs.Rows.{recordRows};
+ghost use Rattle.cutting.specs.Rows.{labelRow, spaceRow};
 ghost use Rattle.cutting.specs.Calls.{Checked, Checking, Grouped, Grouping};
 
 // Checking once the links were judged and added: their refusal, or what the table gives.

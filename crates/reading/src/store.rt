@@ -5,7 +5,7 @@ ghost use Prim.Native.Nat.{_+_, _*_, _<_, _≤_};
 ghost use lib.Dec.{T};
 ghost use lib.ListN.{length, getD, take, drop};
 ghost use Rattle.lent.specs.Records.{noLink};
-ghost use Rattle.cutting.specs.Record.{entrySize};
+ghost use Rattle.heaps.specs.Record.{entrySize};
 ghost use Rattle.reading.specs.Lines.{linesOf};
 ghost use Rattle.reading.specs.Reader.{linksIn, entriesIn};
 ghost use Rattle.reading.specs.Walk.{byteAt, sizeAt, Well};

@@ -2,7 +2,7 @@
 -- which fills it, and lent again, to be read, to `check_judged`, with the record and the label space. All that the proof knows of the two is that
 -- each meets its contract.
 -- Assumes nothing.
-use mathlib.Core.Path.{_≡_, refl, sym, _∙_, ap, subst}
+use mathlib.Core.Path.{_≡_, refl}
 use Prim.Native.Nat.{ℕ, _<_, _^_}
 use mathlib.Core.Bool.{true}
 use mathlib.Core.List.{List, [], _∷_}
@@ -46,7 +46,6 @@ use Rattle.meaning.specs.declared.Judged.{Judged}
 use Rattle.meaning.specs.Judge.{first as first-of}
 use Rattle.pairs.specs.Links.{tableRows}
 use Rattle.pairs.specs.Table.{held, filled}
-use Rattle.pairs.proofs.LinksBytes.{Short}
 use Rattle.lent.proofs.RecordsLink.{R, J, told, IsJudged, typed-judged, made-judged}
 use Rattle.lent.proofs.RecordsCalls.{calls-to}
 use Rattle.lent.proofs.RecordsRead.{Own}
@@ -58,7 +57,8 @@ use Rattle.lent.proofs.records.fill_records.Symbol as fill-def
 use Rattle.lent.proofs.records.fill_records.Symbol.{name as #fill-records}
 use Rattle.lent.proofs.records.fill_records.Met as fill-thm
 use Rattle.cutting.specs.declared.Answer.{Answer}
-use Rattle.cutting.specs.Rows.{labelRow, recordRows}
+use Rattle.heaps.specs.Rows.{recordRows}
+use Rattle.cutting.specs.Rows.{labelRow}
 use Rattle.cutting.specs.Calls.{Checked, Checking}
 use Rattle.cutting.proofs.Judged.{judged-few, judged-checking}
 use Rattle.cutting.proofs.Answer as Ans

@@ -5,7 +5,7 @@ use Rattle.pairs.specs.Links.{linksOf}
 use Rattle.pairs.specs.Side.{heapOf}
 use Rattle.pairs.proofs.LinksBytes.{length-linksOf}
 use Rattle.pairs.proofs.LinksRows.{links-accepted, links-proper, propers-more}
-use Rattle.cutting.proofs.Parting.{heap-start}
+use Rattle.heaps.proofs.Parting.{heap-start}
 use Rattle.cutting.proofs.Keeping.{kept-same, kept-most, links-short, links-fit, thins-refused, thins-accepted}
 use borrow.Author.Needs.{needs}
 use Rattle.cutting.proofs.thin.thin_table.Statement.{statement}
