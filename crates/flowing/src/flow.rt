@@ -183,10 +183,11 @@ pub fn flow(
     res: &mut [u32; 448],
     seen: &mut [u8; 128],
 ) -> Shown
-    requires { ⌜ (length (now res) ≡ 448) × (length (now seen) ≡ 128) ⌝ }
     ensures { λ r. ⌜ Flowed (waysOf (now (ways .entry)) m) k t (unmarked (now (free .entry))) (now (seen .exit)) (r .verdict) (r .weight) ⌝ }
     ensures { λ r. ⌜ length (now (res .exit)) ≡ 448 ⌝ }
 {
+    *res = [0; 448];
+    *seen = [0; 128];
     if m <= 448 {
         if t < 128 {
             return flow_within(ways, next, first, m, k, free, t, res, seen);

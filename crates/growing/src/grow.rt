@@ -283,10 +283,10 @@ pub fn grow(
     block: &mut [u8; 128],
     free: &mut [u8; 128],
 ) -> Outcome
-    requires { ⌜ (length (now block) ≡ 128) × (length (now free) ≡ 128) ⌝ }
     ensures { λ r. ⌜ (T (seen n (heapOf (now (names .entry))) p) → Known n (held (now (table .entry))) k (pile n (heapOf (now (names .entry))) p) p (now (block .exit)) (now (free .exit)) (r .light) (r .one) (r .weight)) ⌝ }
-    ensures { λ r. ⌜ (T (not (seen n (heapOf (now (names .entry))) p)) → (r .light ≡ false) × (r .one ≡ true) × (r .weight ≡ 0) × (now (block .exit) ≡ now (block .entry)) × (now (free .exit) ≡ replicate 128 0)) ⌝ }
+    ensures { λ r. ⌜ (T (not (seen n (heapOf (now (names .entry))) p)) → (r .light ≡ false) × (r .one ≡ true) × (r .weight ≡ 0) × (now (block .exit) ≡ replicate 128 0) × (now (free .exit) ≡ replicate 128 0)) ⌝ }
 {
+    *block = [0u8; 128];
     *free = [0u8; 128];
     if n <= 128 {
         if p < n {

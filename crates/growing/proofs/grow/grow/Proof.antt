@@ -29,19 +29,17 @@ bone-requires c κs = search needs
 grow-pile-requires : tie.Need-grow-pile-requires
 unfolding stands heapOf
 grow-pile-requires c κs =
-    let s = c .before .before .before .before .before .before .before .before in
-    let a = s .args in
+    let a = c .before .before .before .before .before .before .before .before .before .args in
     let below = c .before .before .before .before .before .if2 .taken in
     let own = sym (c .before .before .before .bone .ensures .0) ∙ c .before .before .if3 .taken in (
-      (c .before .before .before .before .before .before .if1 .taken, s .pre .0, refl),
+      (c .before .before .before .before .before .before .if1 .taken, refl, refl),
       (λ x h. unmarked x, pile-intro (a .n) (heapOf (a .names .now)) (a .p) (a .p) below own),
     )
 
 returns : tie.Need-returns
 unfolding heapOf
 returns c =
-    let s = c .before .before .before .before .before .before .before .before .before in
-    let a = s .args in
+    let a = c .before .before .before .before .before .before .before .before .before .before .args in
     let below = c .before .before .before .before .before .before .if2 .taken in
     let own = sym (c .before .before .before .before .bone .ensures .0) ∙ c .before .before .before .if3 .taken in
     let yes = seen-intro (a .n) (heapOf (a .names .now)) (a .p) (c .before .before .before .before .before .before .before .if1 .taken) below own in
@@ -50,17 +48,17 @@ returns c =
 returns-2 : tie.Need-returns-2
 unfolding heapOf
 returns-2 c =
-    let a = c .before .before .before .before .before .before .args in
+    let a = c .before .before .before .before .before .before .before .args in
     (λ yes. absurd (c .if3 .left (c .before .bone .ensures .0 ∙ seen-own (a .n) (heapOf (a .names .now)) (a .p) yes)), λ _. (refl, refl, refl, refl, refl))
 
 returns-3 : tie.Need-returns-3
 returns-3 c =
-    let a = c .before .before .before .args in
+    let a = c .before .before .before .before .args in
     (λ yes. absurd (omega (arith, c .if2 .left, seen-below (a .n) (heapOf (a .names .now)) (a .p) yes)), λ _. (refl, refl, refl, refl, refl))
 
 returns-4 : tie.Need-returns-4
 returns-4 c =
-    let a = c .before .before .args in
+    let a = c .before .before .before .args in
     (λ yes. absurd (omega (arith, c .if1 .left, seen-small (a .n) (heapOf (a .names .now)) (a .p) yes)), λ _. (refl, refl, refl, refl, refl))
 
 pub grow-spec : {M : Type 1} → statement M

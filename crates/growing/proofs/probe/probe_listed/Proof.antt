@@ -14,6 +14,7 @@ use Rattle.growing.specs.Grow.{beside}
 use Rattle.flowing.specs.Flow.{waysOf}
 use Rattle.pairs.proofs.TableHeld.{held-symmetric}
 use Rattle.growing.proofs.ProbeWeighs.{probed-light, probed-none, probed-nothing}
+use borrow.Author.Needs.{needs}
 use Rattle.growing.proofs.probe.probe_listed.Statement.{statement}
 use Rattle.growing.proofs.probe.probe_listed.Tie as tie
 
@@ -29,9 +30,7 @@ bone-below c =
     omega (arith, pile-bone (a .n) (heapOf (a .names .now)) (a .p) (a .t) (left-of (S (a .t)) (not (eqb (a .t) (a .p))) (c .pre .1 .0 (a .t) (c .pre .0 .3))), c .pre .0)
 
 flow-requires : tie.Need-flow-requires
-flow-requires c κs =
-    let s = c .before .before .before .before in
-    (s .pre .0 .2, refl)
+flow-requires c κs = search needs
 
 returns-2 : tie.Need-returns-2
 returns-2 c =
