@@ -1,6 +1,10 @@
 //! One thing to compare, as a text that can be kept and run again.
 
+use crate::library::Call;
 use crate::second::calls::Job;
+
+/// Characters of a text that a failure prints: the hexadecimal of 4,096 links and 127 cuts, and what stands around it.
+const MOST_PRINTED: usize = 40_000;
 
 #[derive(Clone)]
 pub enum Case {
@@ -18,7 +22,26 @@ fn unhex(word: &str) -> Option<Vec<u8>> {
 }
 
 impl Case {
-    pub fn text(&self) -> String {
+    pub fn is_text(&self) -> bool {
+        matches!(self, Case::Program(_))
+    }
+
+    pub fn as_text(&self) -> Option<Vec<u8>> {
+        match self {
+            Case::Program(text) => Some(text.clone()),
+            _ => None,
+        }
+    }
+
+    pub fn as_call(&self) -> Option<(Call, &Job)> {
+        match self {
+            Case::Grouping(job) => Some((Call::Grouping, job)),
+            Case::Checking(job) => Some((Call::Checking, job)),
+            Case::Program(_) => None,
+        }
+    }
+
+    fn text(&self) -> String {
         match self {
             Case::Grouping(job) => job_text("grouping", job),
             Case::Checking(job) => job_text("checking", job),
@@ -26,9 +49,14 @@ impl Case {
         }
     }
 
-    /// The text, and what to do with it.
-    pub fn reproduce(&self) -> String {
-        format!("--- compare/run --replay FILE, with this in FILE:\n{}---", self.text())
+    /// The text, and what to do with it. One that is longer than any list makes it is put into a file.
+    pub fn reproduce(&self, count: u64) -> String {
+        let text = self.text();
+        let file = format!("target/compare/failed-{count}.txt");
+        if text.len() > MOST_PRINTED && std::fs::write(&file, &text).is_ok() {
+            return format!("--- compare/run --replay {file}");
+        }
+        format!("--- compare/run --replay FILE, with this in FILE:\n{text}---")
     }
 
     pub fn from_text(text: &str) -> Option<Case> {

@@ -2,14 +2,13 @@
 
 use crate::case::Case;
 use crate::known::Memory;
-use crate::library::{self, Answer, Done};
-use crate::program;
+use crate::library::{Answer, Done};
+use crate::product::Outcome;
 use crate::second::calls::{judge_checking, judge_grouping, Job};
 use crate::second::pit::Pit;
 use crate::second::record::{cuts_of, judge_run, record_of, Heap, ENTRY};
 use crate::second::text::{asked, cuts_shown, refusal_text, result_text};
 use crate::second::Refusal;
-use std::path::PathBuf;
 
 /// Says what is wrong if it is.
 fn demand(holds: bool, what: &str) -> Result<(), String> {
@@ -27,36 +26,27 @@ pub struct Met {
     pub program: [u64; 21],
 }
 
+#[derive(Default)]
 pub struct Judge {
     memory: Memory,
-    program: Option<PathBuf>,
     pub met: Met,
 }
 
 impl Judge {
-    pub fn new(program: Option<PathBuf>) -> Judge {
-        Judge { memory: Memory::default(), program, met: Met::default() }
-    }
-
-    pub fn has_program(&self) -> bool {
-        self.program.is_some()
-    }
-
-    /// Runs a case on the product and says what is wrong with the answer.
-    pub fn hold(&mut self, case: &Case) -> Result<(), String> {
-        match case {
-            Case::Grouping(_) | Case::Checking(_) if !cfg!(library) => Ok(()),
-            Case::Grouping(job) => self.hold_grouping(job),
-            Case::Checking(job) => self.hold_checking(job),
-            Case::Program(text) => self.hold_program(text),
+    /// Says what is wrong with what the product made of a case.
+    pub fn hold(&mut self, case: &Case, outcome: &Outcome) -> Result<(), String> {
+        match (case, outcome) {
+            (Case::Grouping(job), Outcome::Called(done)) => self.hold_grouping(job, done),
+            (Case::Checking(job), Outcome::Called(done)) => self.hold_checking(job, done),
+            (Case::Program(text), Outcome::Printed(printed)) => self.hold_printed(text, printed),
+            _ => Err("an outcome of another kind".to_string()),
         }
     }
 
-        fn hold_grouping(&mut self, job: &Job) -> Result<(), String> {
-        let done = library::grouping(job);
+    fn hold_grouping(&mut self, job: &Job, done: &Done) -> Result<(), String> {
         let (pit, _) = match judge_grouping(job) {
             Ok(good) => good,
-            Err(refusal) => return self.hold_refusal(refusal, &done),
+            Err(refusal) => return self.hold_refusal(refusal, done),
         };
         self.met.library[0] += 1;
         let known = self.memory.of(job);
@@ -70,11 +60,10 @@ impl Judge {
         demand(heap.names(pit.n) == known.labels(), "the run does not lead to the labels")
     }
 
-        fn hold_checking(&mut self, job: &Job) -> Result<(), String> {
-        let done = library::checking(job);
+    fn hold_checking(&mut self, job: &Job, done: &Done) -> Result<(), String> {
         let (pit, heap) = match judge_checking(job) {
             Ok(good) => good,
-            Err(refusal) => return self.hold_refusal(refusal, &done),
+            Err(refusal) => return self.hold_refusal(refusal, done),
         };
         self.met.library[0] += 1;
         let finished = self.memory.of(job).is_finished(&heap);
@@ -84,19 +73,17 @@ impl Judge {
         demand(done.wrote_only(pit.n, 0), "a byte changed that may not")
     }
 
-        fn hold_refusal(&mut self, refusal: Refusal, done: &Done) -> Result<(), String> {
+    fn hold_refusal(&mut self, refusal: Refusal, done: &Done) -> Result<(), String> {
         self.met.library[refusal.number as usize] += 1;
         let wanted = Answer { number: refusal.number, place: refusal.place, count: 0, finished: 0 };
         demand(done.answer == wanted, &format!("answered {:?}, wanted {wanted:?}", done.answer))?;
         demand(done.wrote_only(0, 0), "a refusal changed a byte")
     }
 
-    fn hold_program(&mut self, text: &[u8]) -> Result<(), String> {
-        let Some(program) = &self.program else { return Ok(()) };
-        let printed = program::printed(program, text)?;
+    fn hold_printed(&mut self, text: &[u8], printed: &[u8]) -> Result<(), String> {
         match asked(text).and_then(|job| judge_grouping(&job).map(|good| (job, good))) {
-            Ok((job, (pit, _))) => self.hold_result(&job, &pit, &printed),
-            Err(refusal) => self.hold_printed_refusal(refusal, &printed),
+            Ok((job, (pit, _))) => self.hold_result(&job, &pit, printed),
+            Err(refusal) => self.hold_printed_refusal(refusal, printed),
         }
     }
 

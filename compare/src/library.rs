@@ -1,9 +1,10 @@
-//! The calls of the library under test, with a watch on every byte that is lent.
+//! The calls of the library under test, made by served/library.c, with a watch on every byte that is lent.
 
 use crate::second::calls::Job;
+use crate::server::Server;
+use std::path::PathBuf;
 
 /// The answer of a call, as include/bones.h declares it.
-#[repr(C)]
 #[derive(Clone, Copy, PartialEq, Eq, Debug)]
 pub struct Answer {
     pub number: u32,
@@ -12,145 +13,112 @@ pub struct Answer {
     pub finished: u32,
 }
 
-#[cfg(library)]
-extern "C" {
-    fn bones_grouping(
-        n: u64,
-        k: u64,
-        links: *const u8,
-        links_length: usize,
-        record: *const u8,
-        record_length: usize,
-        labels: *mut u8,
-        labels_length: usize,
-        space: *mut u8,
-        space_length: usize,
-    ) -> Answer;
-    fn bones_checking(
-        n: u64,
-        k: u64,
-        links: *const u8,
-        links_length: usize,
-        record: *const u8,
-        record_length: usize,
-        labels: *mut u8,
-        labels_length: usize,
-    ) -> Answer;
+#[derive(Clone, Copy, PartialEq, Eq)]
+pub enum Call {
+    Grouping,
+    Checking,
 }
 
-/// Stands in where no library is linked; the judge then makes no call.
-#[cfg(not(library))]
-mod absent {
-    use super::Answer;
+pub struct Library(Server);
 
-    type Run = *const u8;
-
-    pub unsafe fn bones_grouping(_: u64, _: u64, _: Run, _: usize, _: Run, _: usize, _: Run, _: usize, _: Run, _: usize) -> Answer {
-        Answer { number: u32::MAX, place: 0, count: 0, finished: 0 }
+impl Library {
+    pub fn new(path: PathBuf) -> Library {
+        Library(Server::new(path))
     }
 
-    pub unsafe fn bones_checking(_: u64, _: u64, _: Run, _: usize, _: Run, _: usize, _: Run, _: usize) -> Answer {
-        Answer { number: u32::MAX, place: 0, count: 0, finished: 0 }
+    pub fn call(&mut self, calls: &[(Call, &Job)]) -> Vec<Result<Done, String>> {
+        let questions: Vec<Vec<u8>> = calls.iter().map(|(call, job)| question(*call, job)).collect();
+        let answers = self.0.ask(&questions);
+        let done = |(answer, (call, job)): (Result<Vec<u8>, String>, &(Call, &Job))| Ok(Done::new(&answer?, *call, job));
+        answers.into_iter().zip(calls).map(done).collect()
     }
 }
-#[cfg(not(library))]
-use absent::{bones_checking, bones_grouping};
 
 const MARGIN: usize = 64;
 const PATTERN: u8 = 0xa7;
 
-/// A run of bytes with a margin on both sides.
-struct Lent {
-    bytes: Vec<u8>,
-    length: usize,
-}
+/// A run of bytes and the memory around it.
+struct Lent(Vec<u8>);
 
 impl Lent {
     fn of(content: &[u8]) -> Lent {
         let mut lent = Lent::room(content.len());
-        lent.bytes[MARGIN..MARGIN + content.len()].copy_from_slice(content);
+        lent.0[MARGIN..MARGIN + content.len()].copy_from_slice(content);
         lent
     }
 
     fn room(length: usize) -> Lent {
-        Lent { bytes: vec![PATTERN; length + 2 * MARGIN], length }
+        Lent(vec![PATTERN; MARGIN + length + MARGIN])
     }
 
-    /// NULL where there is nothing to lend, as a caller in C would have it.
-    fn pointer(&mut self) -> *mut u8 {
-        if self.length == 0 {
-            std::ptr::null_mut()
-        } else {
-            self.bytes[MARGIN..].as_mut_ptr()
-        }
+    fn length(&self) -> usize {
+        self.0.len() - 2 * MARGIN
     }
 
     fn run(&self) -> &[u8] {
-        &self.bytes[MARGIN..MARGIN + self.length]
+        &self.0[MARGIN..MARGIN + self.length()]
     }
 
     /// Whether everything but the first `written` bytes of the run holds the pattern still.
     fn kept_after(&self, written: usize) -> bool {
-        let (before, rest) = self.bytes.split_at(MARGIN);
-        written <= self.length && before.iter().chain(&rest[written..]).all(|byte| *byte == PATTERN)
+        let (before, rest) = self.0.split_at(MARGIN);
+        written <= self.length() && before.iter().chain(&rest[written..]).all(|byte| *byte == PATTERN)
     }
 }
 
-/// What a call answered and wrote.
+/// Links, record, labels and space as they are lent. Checking has no record space.
+fn lent(call: Call, job: &Job) -> [Lent; 4] {
+    let space = if call == Call::Grouping { job.space } else { 0 };
+    [Lent::of(&job.links), Lent::of(&job.record), Lent::room(job.labels), Lent::room(space)]
+}
+
+fn question(call: Call, job: &Job) -> Vec<u8> {
+    let lent = lent(call, job);
+    let mut bytes = Vec::new();
+    for word in [u64::from(call == Call::Checking), job.n, job.k] {
+        bytes.extend(word.to_le_bytes());
+    }
+    for lent in &lent {
+        bytes.extend((lent.length() as u64).to_le_bytes());
+    }
+    for lent in &lent {
+        bytes.extend_from_slice(&lent.0);
+    }
+    bytes
+}
+
+/// What a call answered and what it left of the memory that was lent.
 pub struct Done {
     pub answer: Answer,
-    labels: Lent,
-    space: Lent,
+    lent: [Lent; 4],
     inputs_kept: bool,
 }
 
 impl Done {
+    fn new(bytes: &[u8], call: Call, job: &Job) -> Done {
+        let word = |at: usize| u32::from_le_bytes([bytes[at], bytes[at + 1], bytes[at + 2], bytes[at + 3]]);
+        let answer = Answer { number: word(0), place: word(4), count: word(8), finished: word(12) };
+        let before = lent(call, job);
+        let mut rest = &bytes[16..];
+        let after = [0, 1, 2, 3].map(|i: usize| {
+            let (memory, later) = rest.split_at(before[i].0.len());
+            rest = later;
+            Lent(memory.to_vec())
+        });
+        let inputs_kept = after[0].0 == before[0].0 && after[1].0 == before[1].0;
+        Done { answer, lent: after, inputs_kept }
+    }
+
     pub fn labels(&self, n: usize) -> &[u8] {
-        &self.labels.run()[..n]
+        &self.lent[2].run()[..n]
     }
 
     pub fn record(&self, length: usize) -> &[u8] {
-        &self.space.run()[..length]
+        &self.lent[3].run()[..length]
     }
 
     /// Whether no byte has changed but the first of the labels and of the record space, as many as are given here.
     pub fn wrote_only(&self, labels: usize, space: usize) -> bool {
-        self.inputs_kept && self.labels.kept_after(labels) && self.space.kept_after(space)
+        self.inputs_kept && self.lent[2].kept_after(labels) && self.lent[3].kept_after(space)
     }
-}
-
-pub fn grouping(job: &Job) -> Done {
-    call(job, job.space, |links, record, labels, space| {
-        // Every pointer goes with the length of its run, and no two runs overlap.
-        unsafe {
-            bones_grouping(
-                job.n,
-                job.k,
-                links.pointer(),
-                links.length,
-                record.pointer(),
-                record.length,
-                labels.pointer(),
-                labels.length,
-                space.pointer(),
-                space.length,
-            )
-        }
-    })
-}
-
-pub fn checking(job: &Job) -> Done {
-    call(job, 0, |links, record, labels, _| {
-        // As above.
-        unsafe { bones_checking(job.n, job.k, links.pointer(), links.length, record.pointer(), record.length, labels.pointer(), labels.length) }
-    })
-}
-
-fn call(job: &Job, room: usize, act: impl FnOnce(&mut Lent, &mut Lent, &mut Lent, &mut Lent) -> Answer) -> Done {
-    let (mut links, mut record) = (Lent::of(&job.links), Lent::of(&job.record));
-    let (mut labels, mut space) = (Lent::room(job.labels), Lent::room(room));
-    let answer = act(&mut links, &mut record, &mut labels, &mut space);
-    let same = |lent: &Lent, content: &[u8]| lent.run() == content && lent.kept_after(lent.length);
-    let inputs_kept = same(&links, &job.links) && same(&record, &job.record);
-    Done { answer, labels, space, inputs_kept }
 }

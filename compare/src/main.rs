@@ -6,33 +6,50 @@ mod known;
 mod library;
 mod made;
 mod plan;
+mod product;
 mod program;
 mod second;
 mod self_test;
-mod trace;
+mod server;
 
 use case::Case;
 use judge::Judge;
+use library::Library;
 use made::lists;
 use made::rng::Rng;
+use product::{Outcome, Product};
+use program::Program;
+use second::calls::Job;
+use server::Server;
 use std::path::PathBuf;
 use std::time::{Duration, Instant};
-use trace::Trace;
 
 struct Options {
     seed: u64,
     lists: usize,
+    thorough: usize,
     texts: usize,
     soak: u64,
+    library: Option<PathBuf>,
     program: Option<PathBuf>,
+    started: Option<PathBuf>,
     replay: Option<PathBuf>,
     answer: Option<String>,
-    trace: Option<PathBuf>,
 }
 
 fn options() -> Result<Options, String> {
-    let mut options =
-        Options { seed: 1, lists: 20_000, texts: 12, soak: 0, program: None, replay: None, answer: None, trace: None };
+    let mut options = Options {
+        seed: 1,
+        lists: 20_000,
+        thorough: 2,
+        texts: 12,
+        soak: 0,
+        library: None,
+        program: None,
+        started: None,
+        replay: None,
+        answer: None,
+    };
     let mut words = std::env::args().skip(1);
     while let Some(word) = words.next() {
         let mut value = || words.next().ok_or(format!("{word} wants a value"));
@@ -40,11 +57,13 @@ fn options() -> Result<Options, String> {
         match word.as_str() {
             "--seed" => options.seed = number(value()?)?,
             "--lists" => options.lists = number(value()?)? as usize,
+            "--thorough" => options.thorough = number(value()?)?.max(1) as usize,
             "--texts" => options.texts = number(value()?)? as usize,
             "--soak" => options.soak = number(value()?)?,
+            "--library" => options.library = Some(value()?.into()),
             "--program" => options.program = Some(value()?.into()),
+            "--started" => options.started = Some(value()?.into()),
             "--replay" => options.replay = Some(value()?.into()),
-            "--trace" => options.trace = Some(value()?.into()),
             "--answer" => options.answer = Some(value()?),
             _ => return Err(format!("no option {word}")),
         }
@@ -52,10 +71,10 @@ fn options() -> Result<Options, String> {
     Ok(options)
 }
 
-/// Holds cases one by one; the first few failures are printed with a text that reproduces them.
+/// Holds cases to the second program; the first few failures are printed with a text that reproduces them.
 struct Tally {
+    product: Product,
     judge: Judge,
-    trace: Trace,
     held: u64,
     failed: u64,
 }
@@ -63,17 +82,45 @@ struct Tally {
 const MOST_SHOWN: u64 = 5;
 
 impl Tally {
-    fn hold(&mut self, case: &Case) {
-        match self.trace.during(case, || self.judge.hold(case)) {
-            Ok(()) => self.held += 1,
-            Err(what) => self.fail(case, &what),
+    fn new(options: &Options) -> Tally {
+        let served = options.program.clone().map(|path| Program::Served(Server::new(path)));
+        let program = served.or(options.started.clone().map(Program::Started));
+        let product = Product { library: options.library.clone().map(Library::new), program };
+        Tally { product, judge: Judge::default(), held: 0, failed: 0 }
+    }
+
+    fn has_library(&self) -> bool {
+        self.product.library.is_some()
+    }
+
+    fn has_program(&self) -> bool {
+        self.product.program.is_some()
+    }
+
+    fn hold(&mut self, cases: &[Case]) {
+        for (case, outcome) in cases.iter().zip(self.product.outcomes(cases)) {
+            match outcome.and_then(|outcome| self.judge.hold(case, &outcome)) {
+                Ok(()) => self.held += 1,
+                Err(what) => self.fail(case, &what),
+            }
         }
+    }
+
+    /// Holds one case and gives what came of it, if it is good.
+    fn hold_one(&mut self, case: Case) -> Option<Outcome> {
+        let outcome = self.product.outcomes(std::slice::from_ref(&case)).remove(0);
+        let good = outcome.and_then(|outcome| self.judge.hold(&case, &outcome).map(|()| outcome));
+        match &good {
+            Ok(_) => self.held += 1,
+            Err(what) => self.fail(&case, what),
+        }
+        good.ok()
     }
 
     fn fail(&mut self, case: &Case, what: &str) {
         self.failed += 1;
         if self.failed <= MOST_SHOWN {
-            println!("FAILED: {what}\n{}", case.reproduce());
+            println!("FAILED: {what}\n{}", case.reproduce(self.failed));
         }
     }
 
@@ -82,14 +129,32 @@ impl Tally {
     }
 }
 
-fn hold_list(tally: &mut Tally, turn: usize, seed: u64) {
+/// The calls on a list, and with the run that grouping made, handed back.
+fn hold_calls(tally: &mut Tally, job: &Job, thorough: bool, rng: &mut Rng) {
+    let mut cases = plan::cases_of_list(job, thorough, rng);
+    if let Some(Outcome::Called(done)) = tally.hold_one(Case::Grouping(job.clone())) {
+        cases.extend(plan::handed_back(job, &done));
+    }
+    tally.hold(&cases);
+}
+
+/// A text of a list; now and then a text with the cuts that the program printed for it.
+fn hold_text(tally: &mut Tally, job: &Job, rng: &mut Rng) {
+    let text = plan::text_of_list(job, rng);
+    let printed = tally.hold_one(Case::Program(text.clone()));
+    if let (Some(Outcome::Printed(printed)), true) = (printed, rng.one_in(4)) {
+        tally.hold(&plan::printed_again(&text, &printed));
+    }
+}
+
+fn hold_list(tally: &mut Tally, turn: usize, options: &Options, seed: u64) {
     let mut rng = Rng::new(seed.wrapping_mul(1_000_003).wrapping_add(turn as u64));
     let job = lists::list(plan::size(turn, &mut rng), &mut rng);
-    if cfg!(library) {
-        plan::cases_of_list(&job, turn, &mut rng).iter().for_each(|case| tally.hold(case));
+    if tally.has_library() {
+        hold_calls(tally, &job, rng.one_in(options.thorough), &mut rng);
     }
-    if tally.judge.has_program() {
-        tally.hold(&Case::Program(plan::text_of_list(&job, &mut rng)));
+    if tally.has_program() {
+        hold_text(tally, &job, &mut rng);
     }
 }
 
@@ -98,7 +163,7 @@ fn hold_lists(tally: &mut Tally, options: &Options, seed: u64) {
         if tally.enough() {
             return;
         }
-        hold_list(tally, turn, seed);
+        hold_list(tally, turn, options, seed);
     }
 }
 
@@ -108,11 +173,11 @@ fn hold_texts(tally: &mut Tally, options: &Options, seed: u64) {
     for text in plan::base_texts(options.texts, &mut rng) {
         cases.extend(plan::cases_of_text(&text, &mut rng));
     }
-    for case in cases {
+    for some in cases.chunks(1000) {
         if tally.enough() {
             return;
         }
-        tally.hold(&case);
+        tally.hold(some);
     }
 }
 
@@ -124,11 +189,11 @@ fn unmet(met: &[u64; 21], rows: &[usize]) -> Vec<usize> {
 fn report(tally: &Tally, start: Instant) -> bool {
     let (library, program) = (&tally.judge.met.library, &tally.judge.met.program);
     let mut missing = Vec::new();
-    if cfg!(library) {
+    if tally.has_library() {
         println!("library: carried out and refused by row: {:?}", &library[..14]);
         missing.extend(unmet(library, &[0, 1, 2, 3, 4, 5, 6, 7, 8, 9, 10, 11, 12, 13]));
     }
-    if tally.judge.has_program() {
+    if tally.has_program() {
         println!("program: carried out and refused by row: {:?}", &program[..20]);
         missing.extend(unmet(program, &[0, 1, 2, 3, 4, 5, 6, 9, 10, 11, 12, 13, 15, 16, 17, 18, 19]));
     }
@@ -143,7 +208,7 @@ fn report(tally: &Tally, start: Instant) -> bool {
 fn replay(tally: &mut Tally, path: &PathBuf) -> Result<bool, String> {
     let text = std::fs::read_to_string(path).map_err(|error| error.to_string())?;
     let case = Case::from_text(&text).ok_or("not a case")?;
-    tally.hold(&case);
+    tally.hold(&[case]);
     println!("{} passed, {} failed", tally.held, tally.failed);
     Ok(tally.failed == 0)
 }
@@ -154,13 +219,13 @@ fn run(options: &Options) -> Result<bool, String> {
     if let Some(what) = &options.answer {
         return second::answer(what).map(|()| true);
     }
-    let mut tally = Tally { judge: Judge::new(options.program.clone()), trace: Trace(options.trace.clone()), held: 0, failed: 0 };
+    let mut tally = Tally::new(options);
     if let Some(path) = &options.replay {
         return replay(&mut tally, path);
     }
     let mut seed = options.seed;
     loop {
-        if tally.judge.has_program() {
+        if tally.has_program() {
             hold_texts(&mut tally, options, seed);
         }
         hold_lists(&mut tally, options, seed);

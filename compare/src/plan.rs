@@ -1,11 +1,15 @@
 //! What is compared: which cases are made of a list, and which texts of a text.
 
 use crate::case::Case;
+use crate::library::Done;
 use crate::made::rng::Rng;
 use crate::made::{cutter, damage, lists};
-use crate::second::calls::{judge_links, Job};
+use crate::second::calls::{judge_grouping, judge_links, Job};
 use crate::second::record::{record_of, Cut, ENTRY};
-use crate::second::text::{line, raw_input_text};
+use crate::second::text::{asked, cuts_shown, line, raw_input_text};
+
+/// Bytes of a text that is damaged at every byte.
+const MOST_DAMAGED: usize = 600;
 
 /// Sizes as they are met: many of few bones, where every subset is tried, and some of each larger kind.
 pub fn size(turn: usize, rng: &mut Rng) -> usize {
@@ -17,24 +21,39 @@ pub fn size(turn: usize, rng: &mut Rng) -> usize {
     }
 }
 
-/// The cases of one list of the calls: from nothing, every (or some) length of another cutter's run, spoilt runs and spoilt calls.
-pub fn cases_of_list(job: &Job, turn: usize, rng: &mut Rng) -> Vec<Case> {
+/// The calls on one list: with more room than is asked for, with another cutter's run at every (or some) length, with spoilt runs and
+/// with spoilt calls. Lists that are not looked at thoroughly get a few of each.
+pub fn cases_of_list(job: &Job, thorough: bool, rng: &mut Rng) -> Vec<Case> {
     let Ok(pit) = judge_links(job.n, job.k, &job.links) else { return Vec::new() };
     let cuts = cutter::run(&pit, rng);
-    let mut cases = both(job.clone()).to_vec();
-    cases.extend(both(roomier(job, rng)));
-    for length in places(cuts.len() + 1, turn, rng) {
-        cases.extend(both(with_record(job, record_of(&cuts[..length]))));
+    let mut cases = both(roomier(job, rng)).to_vec();
+    cases.push(Case::Checking(job.clone()));
+    let places = if thorough { places(cuts.len() + 1, rng) } else { vec![rng.below(cuts.len() + 1)] };
+    for &place in &places {
+        cases.extend(both(with_record(job, record_of(&cuts[..place]))));
     }
-    for place in places(cuts.len() + 1, turn, rng) {
-        for record in damage::bad_runs(&pit, &cuts, place, rng) {
-            cases.extend(both(with_record(job, record)));
-        }
+    for &place in &places {
+        let mut bad = damage::bad_runs(&pit, &cuts, place, rng);
+        rng.shuffle(&mut bad);
+        let some = if thorough { bad.len() } else { 1 };
+        cases.extend(bad.into_iter().take(some).flat_map(|record| both(with_record(job, record))));
     }
-    for _ in 0..8 {
+    for _ in 0..if thorough { 8 } else { 1 } {
         cases.extend(both(damage::bad_job(&with_record(job, some_of(&cuts, rng)), rng)));
     }
     cases
+}
+
+/// The run that grouping made, handed back to both calls: it is finished, and nothing is added.
+pub fn handed_back(job: &Job, done: &Done) -> [Case; 2] {
+    let length = ENTRY * (done.answer.count as usize - 1);
+    both(with_record(job, done.record(length).to_vec()))
+}
+
+/// The cuts that were printed for a text, put into it.
+pub fn printed_again(text: &[u8], printed: &[u8]) -> Vec<Case> {
+    let (Ok(job), Some(cuts)) = (asked(text), cuts_shown(printed)) else { return Vec::new() };
+    vec![Case::Program(raw_input_text(job.n, job.k, &job.links, &record_of(&cuts)).into_bytes())]
 }
 
 fn both(job: Job) -> [Case; 2] {
@@ -54,8 +73,8 @@ fn some_of(cuts: &[Cut], rng: &mut Rng) -> Vec<u8> {
 }
 
 /// All places where they are few, or now and then; else some of them, the first and the last among them.
-fn places(count: usize, turn: usize, rng: &mut Rng) -> Vec<usize> {
-    if count <= 12 || turn % 1000 == 999 {
+fn places(count: usize, rng: &mut Rng) -> Vec<usize> {
+    if count <= 12 || rng.one_in(40) {
         return (0..count).collect();
     }
     let mut places = vec![0, count - 1];
@@ -76,7 +95,12 @@ pub fn text_of_list(job: &Job, rng: &mut Rng) -> Vec<u8> {
         2 => damage::bad_job(&with_record(job, some_of(&cuts, rng)), rng),
         _ => with_record(job, some_of(&cuts, rng)),
     };
-    raw_input_text(job.n, job.k, &job.links, &job.record).into_bytes()
+    let text = raw_input_text(job.n, job.k, &job.links, &job.record).into_bytes();
+    if rng.one_in(4) {
+        with_notes(&text, rng)
+    } else {
+        text
+    }
 }
 
 fn one_of(mut records: Vec<Vec<u8>>, rng: &mut Rng) -> Vec<u8> {
@@ -96,7 +120,7 @@ pub fn with_notes(text: &[u8], rng: &mut Rng) -> Vec<u8> {
     lines.concat()
 }
 
-/// Small texts that are then damaged in every way, half of them with notes.
+/// Small texts that are then damaged in every way; every other one is good.
 pub fn base_texts(count: usize, rng: &mut Rng) -> Vec<Vec<u8>> {
     let mut texts = vec![crate::self_test::LLAMAS.as_bytes().to_vec()];
     while texts.len() < count {
@@ -105,7 +129,10 @@ pub fn base_texts(count: usize, rng: &mut Rng) -> Vec<Vec<u8>> {
         job.links.truncate(4 * rng.within(1, 7));
         job.k = rng.within(1, 4) as u64;
         let text = text_of_list(&job, rng);
-        texts.push(if rng.one_in(2) { with_notes(&text, rng) } else { text });
+        let good = asked(&text).and_then(|job| judge_grouping(&job)).is_ok();
+        if text.len() <= MOST_DAMAGED && (good || texts.len() % 2 == 0) {
+            texts.push(text);
+        }
     }
     texts
 }
@@ -147,8 +174,9 @@ pub fn edge_cases() -> Vec<Case> {
         texts.extend([text(128, 1, 0, cuts, 0), text(128, 1, 0, cuts, 3), text(0, 1, 0, cuts, 0), text(3, 1, 0, cuts, 0)]);
     }
     texts.extend([text(0, 1, 0, 0, 0), text(129, 1, 0, 0, 0), text(255, 0, 3, 0, 0), text(1, 0, 0, 0, 0), text(1, 65_535, 0, 0, 0)]);
-    // 37 bytes a note: as many as fit, and one more.
+    // 37 bytes a note: as many as fit, and one more; 65,536 bytes in whole frames, and 65,537.
     texts.extend((1765..1775).map(|notes| text(1, 1, 0, 0, notes)));
+    texts.extend([text(128, 1, 2, 0, 1770), text(128, 1, 7, 1, 1767)]);
     for length in [65_535, 65_536, 65_537, 70_000, 200_000] {
         let mut long = text(1, 1, 0, 0, 1700);
         long.resize(length, b'0');

@@ -161,16 +161,19 @@ pub fn damaged_lines(text: &[u8], rng: &mut Rng) -> Vec<Vec<u8>> {
     texts
 }
 
-/// Good frames put where they may not stand, or with another payload: the sums are right, and so, half the time, is the close.
+/// Frames put where they may not stand, or with another payload: most sums are right, and so, half the time, is the close.
 pub fn damaged_frames(text: &[u8], rng: &mut Rng) -> Vec<Vec<u8>> {
     let good = lines(text);
     let mut texts = Vec::new();
     for at in 0..=good.len() {
         for kind in 1..=7 {
             let put = random_frame(kind, rng);
-            let mut more = good.clone();
-            more.insert(at, put.as_bytes());
-            texts.push(closed_again(&more, rng));
+            let spoilt = wrong_sum(&put, rng);
+            for frame in [&put, &spoilt] {
+                let mut more = good.clone();
+                more.insert(at, frame.as_bytes());
+                texts.push(closed_again(&more, rng));
+            }
         }
     }
     for at in 0..good.len() {
@@ -188,6 +191,13 @@ fn random_frame(kind: u8, rng: &mut Rng) -> String {
     let small = rng.one_in(2);
     let payload: Vec<u8> = (0..payload_length(kind).unwrap_or(0)).map(|_| rng.below(if small { 6 } else { 256 }) as u8).collect();
     line(kind, &payload)
+}
+
+/// The line with another byte for its sum.
+fn wrong_sum(line: &str, rng: &mut Rng) -> String {
+    let (frame, sum) = line.trim_end().split_at(line.len() - 3);
+    let sum = u8::from_str_radix(sum, 16).unwrap_or(0).wrapping_add(rng.within(1, 255) as u8);
+    format!("{frame}{sum:02x}\n")
 }
 
 /// A close that counts what stands before it, in the place of one that does not.

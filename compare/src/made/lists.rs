@@ -8,14 +8,22 @@ type Triple = (usize, usize, usize);
 
 /// A good list of n bones with an empty record and just the room that grouping asks for.
 pub fn list(n: usize, rng: &mut Rng) -> Job {
-    let mut links = if n == 1 { Vec::new() } else { shape(n, rng) };
-    links.truncate(4096);
+    let (mut links, k) = links_and_threshold(n, rng);
     let mut order: Vec<usize> = (0..n).collect();
     rng.shuffle(&mut order);
     rng.shuffle(&mut links);
-    let k = threshold(n, &links, rng);
     let bytes = links.into_iter().flat_map(|(a, b, tally)| link_bytes(order[a], order[b], tally, rng)).collect();
     Job { n: n as u64, k: k as u64, links: bytes, record: Vec::new(), labels: n, space: ENTRY * (n - 1) }
+}
+
+fn links_and_threshold(n: usize, rng: &mut Rng) -> (Vec<Triple>, usize) {
+    if n > 2 && rng.one_in(if n > 64 { 3 } else { 12 }) {
+        return bridged(n, rng);
+    }
+    let mut links = if n == 1 { Vec::new() } else { shape(n, rng) };
+    links.truncate(4096);
+    let k = threshold(n, &links, rng);
+    (links, k)
 }
 
 fn link_bytes(a: usize, b: usize, tally: usize, rng: &mut Rng) -> [u8; 4] {
@@ -146,6 +154,38 @@ fn halves(n: usize, rng: &mut Rng) -> Vec<Triple> {
     }
     for _ in 0..rng.below(4) {
         links.push((rng.below(n / 2), rng.within(n / 2, n - 1), 1));
+    }
+    links
+}
+
+/// Parts whose bones have equal tallies, of k or one more, and links from part to part that fall just short of k: hardly a bone is tied to
+/// a set that grows, and no bone is light by itself.
+fn bridged(n: usize, rng: &mut Rng) -> (Vec<Triple>, usize) {
+    let steps = rng.within(1, 6);
+    let k = 2 * steps - rng.below(2);
+    let parts = rng.within(1, (n / (2 * steps + 1)).clamp(1, 4));
+    let size = n / parts;
+    let mut links = Vec::new();
+    for from in (0..parts).map(|part| part * size) {
+        links.extend(equal(from, if from + 2 * size > n { n - from } else { size }, steps, rng));
+    }
+    for from in (1..parts).map(|part| part * size) {
+        links.push((rng.below(from), rng.within(from, n - 1), (k - 1).max(1)));
+    }
+    (links, k)
+}
+
+/// Each bone linked with those up to so many steps round, or so many rings through all bones in random orders.
+fn equal(from: usize, size: usize, steps: usize, rng: &mut Rng) -> Vec<Triple> {
+    let near = rng.one_in(2);
+    let mut ring: Vec<usize> = (from..from + size).collect();
+    let mut links = Vec::new();
+    for step in 1..=steps {
+        if !near {
+            rng.shuffle(&mut ring);
+        }
+        let ahead = if near { step } else { 1 };
+        links.extend((0..size).map(|a| (ring[a], ring[(a + ahead) % size], 1)).filter(|link| link.0 != link.1));
     }
     links
 }

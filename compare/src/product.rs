@@ -1,0 +1,47 @@
+//! The product under test: its library, its program, or both.
+
+use crate::case::Case;
+use crate::library::{Call, Done, Library};
+use crate::program::Program;
+use crate::second::calls::Job;
+
+pub enum Outcome {
+    Called(Done),
+    Printed(Vec<u8>),
+}
+
+pub struct Product {
+    pub library: Option<Library>,
+    pub program: Option<Program>,
+}
+
+impl Product {
+    /// What comes of each case, or how the product failed; cases of one kind that stand together are handed over together.
+    pub fn outcomes(&mut self, cases: &[Case]) -> Vec<Result<Outcome, String>> {
+        cases.chunk_by(|a, b| a.is_text() == b.is_text()).flat_map(|some| self.of_one_kind(some)).collect()
+    }
+
+    fn of_one_kind(&mut self, cases: &[Case]) -> Vec<Result<Outcome, String>> {
+        if cases[0].is_text() {
+            let texts: Vec<Vec<u8>> = cases.iter().filter_map(Case::as_text).collect();
+            self.printed(&texts).into_iter().map(|printed| printed.map(Outcome::Printed)).collect()
+        } else {
+            let calls: Vec<(Call, &Job)> = cases.iter().filter_map(Case::as_call).collect();
+            self.called(&calls).into_iter().map(|done| done.map(Outcome::Called)).collect()
+        }
+    }
+
+    fn printed(&mut self, texts: &[Vec<u8>]) -> Vec<Result<Vec<u8>, String>> {
+        match &mut self.program {
+            Some(program) => program.printed(texts),
+            None => texts.iter().map(|_| Err("there is no program to run".to_string())).collect(),
+        }
+    }
+
+    fn called(&mut self, calls: &[(Call, &Job)]) -> Vec<Result<Done, String>> {
+        match &mut self.library {
+            Some(library) => library.call(calls),
+            None => calls.iter().map(|_| Err("there is no library to call".to_string())).collect(),
+        }
+    }
+}
