@@ -12,7 +12,7 @@ use Rattle.meaning.specs.declared.Link.{Link}
 use Rattle.meaning.specs.declared.Judged.{Judged}
 use Rattle.meaning.specs.declared.Judged.the-variants.{Accepted, Refused}
 use Rattle.meaning.specs.Judge.{first}
-use Rattle.meaning.specs.Tally.{pairTally}
+use Rattle.meaning.specs.Tally.{Tally, pairTally}
 use Rattle.meaning.specs.Firm.{label, groups}
 use Rattle.meaning.specs.Heap.{start, piles, LawfulRun, left, weights, between, finished}
 use Rattle.meaning.proofs.Tallies.{pairTally-symmetric}
@@ -26,7 +26,7 @@ use Rattle.heaps.specs.Record.{entrySize, cutsOf}
 use Rattle.heaps.specs.Rows.{recordRows, entriesRows}
 use Rattle.cutting.specs.Rows.{checkingRows, groupingRows}
 use Rattle.heaps.specs.Names.{settled, written}
-use Rattle.cutting.specs.Calls.{answered, Checking, Recorded, Continued, Grouping, Thinning}
+use Rattle.cutting.specs.Calls.{answered, Checking, Recorded, Continued, Grouping, Thins}
 use Rattle.heaps.proofs.Names.{written-same}
 use Rattle.heaps.proofs.Cuts.{length-cuts}
 use Rattle.heaps.proofs.Lawful.{Stopped, narrow-cuts, entries-lawful, lawful-entries, entries-stop, record-fits}
@@ -148,7 +148,7 @@ module _ (n k : ℕ) (good : Bool) (links : List Link) (judged : first (tableRow
             entries-stop n (pairTally links) k (cutsOf bytes) start 0 number place (counted .few-bones) (narrow-cuts (length bytes / entrySize) bytes) e,
           )
 
--- at most one answer and one content of the label space (for thinning, of the link space) meets each promise
+-- at most one answer and one content of the label space, or of the link space, meets each promise
 pub checking-unique : (n k : ℕ) (good : Bool) (links : List Link) (bytes labels a b : List ℕ) (r s : Answer)
     → Checking n k good links bytes labels a r → Checking n k good links bytes labels b s → (r ≡ s) × (a ≡ b)
 checking-unique n k good links bytes labels a b r s g h = (g .answer ∙ sym (h .answer), g .names-left ∙ sym (h .names-left))
@@ -157,6 +157,7 @@ pub grouping-unique : (n k : ℕ) (good : Bool) (links : List Link) (bytes label
     → Grouping n k good links bytes labels a space c r → Grouping n k good links bytes labels b space d s → (r ≡ s) × (a ≡ b)
 grouping-unique n k good links bytes labels a b space c d r s g h = (g .answer ∙ sym (h .answer), g .labels-left ∙ sym (h .labels-left))
 
-pub thinning-unique : (n k : ℕ) (good : Bool) (links : List Link) (space a b : List ℕ) (r s : Thinned)
-    → Thinning n k good links space a r → Thinning n k good links space b s → (r ≡ s) × (a ≡ b)
-thinning-unique n k good links space a b r s g h = (g .answer ∙ sym (h .answer), g .links-left ∙ sym (h .links-left))
+-- for thinning, in whatever form the links are lent
+pub thinning-unique : {A : Type 0} (form : List Link → List A) (rows : List Judged) (n : ℕ) (w : Tally) (k : ℕ) (links : List Link) (space a b : List A) (r s : Thinned)
+    → Thins form rows n w k links space a r → Thins form rows n w k links space b s → (r ≡ s) × (a ≡ b)
+thinning-unique form rows n w k links space a b r s g h = (g .answer ∙ sym (h .answer), g .links-left ∙ sym (h .links-left))

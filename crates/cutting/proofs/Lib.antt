@@ -7,3 +7,6 @@ pub mod Judged
 pub mod Continuing
 pub mod Demands
 pub mod Keeping
+pub mod JudgedThin
+pub mod RecordsLabels
+pub mod RecordsThin

@@ -10,6 +10,7 @@ pub use group::grouping;
 pub use heaps::record;
 pub use records::checking_records;
 pub use records::grouping_records;
+pub use records::thinning_records;
 pub use thin::thinning;
 
 // What grouping and checking answer: a refusal of the table with its place, or the number of groups (of piles) and whether the run of cuts

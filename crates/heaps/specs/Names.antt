@@ -7,7 +7,7 @@ use Rattle.meaning.specs.declared.Judged.the-variants.{Accepted, Refused}
 use Rattle.meaning.specs.Heap.{Heap}
 
 -- what is left in lent room: as it was where refused
-unfoldable pub settled : Judged → List ℕ → List ℕ → List ℕ
+unfoldable pub settled : {A : Type 0} → Judged → A → A → A
 settled Accepted was new = new
 settled (Refused number place) was new = was
 
