@@ -16,10 +16,10 @@ use Rattle.meaning.proofs.Sums.{sum-ext, sum-add, sum-one, sum-zero}
 use Rattle.meaning.proofs.Totals.{parts}
 use Rattle.growing.specs.Blocks.{reaches}
 use Rattle.pairs.specs.Marks.{marked}
-use Rattle.growing.specs.Grow.{with-bone, beside, degree, two-step, Undivided, joined, Added, Weighed, Spread, Measured, Tied, ByTwo, Chosen, steps}
+use Rattle.growing.specs.Grow.{with-bone, beside, degree, two-step, Undivided, joined, Added, Weighed, Spread, Measured, Tied, ByTwo, AllByTwo, Chosen, steps}
 use Rattle.growing.proofs.Adjacency.{Closed}
 use Rattle.growing.proofs.Merging.{weight-on, closed-set}
-use Rattle.growing.proofs.Growing.{near, moved, degree-sides, reaches-parts, undivided-lone, undivided-direct, undivided-half, undivided-two-step, undivided-tied}
+use Rattle.growing.proofs.Growing.{near, moved, degree-sides, reaches-parts, undivided-lone, undivided-direct, undivided-half, undivided-two-step, undivided-tied, undivided-none, two-step-least}
 use Rattle.growing.proofs.GrowRows.{added-most}
 
 -- a smaller set is as undivided
@@ -140,6 +140,15 @@ module _ {n : ℕ} {w : Tally} {k : ℕ} {S : Bones} {p : ℕ} {free degrees tie
       let t = by .one small in
       undivided-two-step n w symmetric k S (joined S (marked free)) (joined-in S (marked free)) (state .undivided) v (free-bone v t) (free-in v t)
       (le-trans (by .tie small) (le-of-eq (steps-two v t)))
+
+  pub rule-all : AllByTwo n w k (marked free) ties → (M : Bones) → Undivided n w k S M
+  unfolding AllByTwo joined
+  rule-all all =
+      undivided-none n w symmetric k S (joined S (marked free)) (joined-in S (marked free)) (state .undivided)
+      (λ v bone in-pile out B holds apart.
+      let t = taut 2 (λ s f. s ⊃ not (s && not f) ⊃ so f) tt (S v) (marked free v) in-pile out in
+      le-trans (all v bone t) (le-trans (le-of-eq (steps-two v t))
+      (two-step-least n w symmetric k S (joined S (marked free)) (joined-in S (marked free)) (state .undivided) v bone in-pile B holds apart)))
 
   pub rule-probed : (v : ℕ) → T (marked free v) → ((B : Bones) → ((x : ℕ) → T (joined S (marked free) x) → T (B x)) → T (not (B v)) → k ≤ weight n w S B) → Undivided n w k S (with-bone (joined S (marked free)) v)
   rule-probed v t heavy = undivided-tied n w symmetric k S (joined S (marked free)) (joined-in S (marked free)) (state .undivided) v (free-bone v t) (free-in v t) heavy

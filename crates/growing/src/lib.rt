@@ -1,4 +1,5 @@
 // Growing a set from a pile's least bone that no light split of the pile need divide.
+mod all;
 pub mod grow;
 mod probe;
 mod row;

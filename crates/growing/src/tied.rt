@@ -35,7 +35,7 @@ fn tied(free: &[u8; 128], degrees: &[u64; 128], ties: &[u64; 128], n: usize, k: 
 }
 
 // What a path of two by way of bone x adds, where x is free: the lesser of a tally and x's tie.
-fn step(free: &[u8; 128], ties: &[u64; 128], x: usize, tally: u64) -> u64
+pub(crate) fn step(free: &[u8; 128], ties: &[u64; 128], x: usize, tally: u64) -> u64
     requires { ⌜ x < 128 ⌝ }
     ensures { λ r. ⌜ (r ≡ cond (marked (now (free .entry)) x) (min tally (getD (now (ties .entry)) x 0)) 0) × (r ≤ tally) ⌝ }
 {
@@ -48,7 +48,12 @@ fn step(free: &[u8; 128], ties: &[u64; 128], x: usize, tally: u64) -> u64
 }
 
 // The tie of bone v, and its paths of two by way of lesser bones.
-fn steps_below(table: &[u32; 16384], free: &[u8; 128], ties: &[u64; 128], v: usize) -> u64
+pub(crate) fn steps_below(
+    table: &[u32; 16384],
+    free: &[u8; 128],
+    ties: &[u64; 128],
+    v: usize,
+) -> u64
     requires { ⌜ (v < 128) × (getD (now ties) v 0 ≤ 2 ^ 40) ⌝ }
     ensures { λ r. ⌜ (r ≡ getD (now (ties .entry)) v 0 + sum v (λ x. cond (beside (marked (now (free .entry))) v x) (min (held (now (table .entry)) v x) (getD (now (ties .entry)) x 0)) 0)) × (r ≤ 2 ^ 40 + v * 2 ^ 32) ⌝ }
 {
