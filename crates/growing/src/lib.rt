@@ -3,5 +3,6 @@ mod all;
 pub mod grow;
 mod probe;
 mod row;
+mod three;
 mod tied;
 mod ways;
