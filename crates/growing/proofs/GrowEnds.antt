@@ -8,7 +8,7 @@ use mathlib.Core.List.{List}
 use native.Mathlib.Nat.{le-refl}
 use native.Mathlib.Omega.{arith}
 use lib.Dec.{T, eqb, ltb, ltb→lt, nltb→le, eqb→eq, T-not, not-T}
-use lib.ListN.{length, getD, set, replicate}
+use lib.ListN.{length, getD, set, replicate, length-replicate}
 use lib.Seq.{getD-set-same, getD-set-other}
 use borrow.Author.Count.{below-more}
 use borrow.Author.Tests.{eqb-true}
@@ -16,18 +16,18 @@ use Rattle.meaning.specs.Count.{Bones, sum, count, some}
 use Rattle.meaning.specs.Tally.{Tally, Symmetric, weight}
 use Rattle.meaning.specs.Heap.{Heap}
 use Rattle.meaning.proofs.Tests.{_⇒_, imp, taut, so, _⊃_, decide, same-test, is-true, is-false, eq→eqb, neqb→ne, both, left-of, right-of}
-use Rattle.meaning.proofs.Sums.{sum-term, count-same}
+use Rattle.meaning.proofs.Sums.{sum-ext, sum-zero, sum-term, count-same}
 use Rattle.meaning.proofs.Sets.{some-intro, some-elim}
 use Rattle.pairs.specs.Side.{heapOf}
 use Rattle.growing.specs.Blocks.{reaches, taken, untaken, BlockNames, Kept, LightSide}
 use Rattle.pairs.specs.Marks.{marked, Filled}
-use Rattle.growing.specs.Grow.{beside, degree, Undivided, joined, Added, Weighed, Spread, Measured, LightMarks, Reached, Known}
+use Rattle.growing.specs.Grow.{beside, degree, Undivided, joined, Added, Weighed, Spread, Measured, AllByTwo, LightMarks, Reached, Known}
 use Rattle.growing.proofs.Adjacency.{untaken-weight}
 use Rattle.growing.proofs.Merging.{weight-on, splits-on, kept-single}
 use Rattle.pairs.proofs.Filling.{cond-yes, cond-no, zeros}
 use Rattle.growing.proofs.Growing.{weight-lone, undivided-lone}
 use Rattle.growing.proofs.GrowRows.{added-most}
-use Rattle.growing.proofs.GrowState.{undivided-within, reaches-same, reaches-bone, count-some, beside-in}
+use Rattle.growing.proofs.GrowState.{undivided-within, reaches-same, reaches-bone, count-some, beside-in, rule-all}
 
 -- ---- marks
 
@@ -172,6 +172,21 @@ module _ (n : ℕ) (w : Tally) (symmetric : Symmetric w) (k : ℕ) (S : Bones) (
         undivided = λ h. state .undivided;
         counted = λ h. size .counted;
       }
+
+  -- every bone that was free joined at once
+  pub reached-all : {free degrees ties : List ℕ} {weighs : ℕ} → n ≤ 128 → Spread n w k S p free degrees ties → AllByTwo n w k (marked free) ties → Reached n w k S p (replicate 128 0) false 0 weighs
+  unfolding marked count
+  reached-all most state all =
+      record {
+        found = λ h. absurd (subst T (sym h) tt);
+        long = length-replicate {A = ℕ} 128 0;
+        others = λ h x t. absurd (subst T (none x) t);
+        undivided = λ h. rule-all symmetric below most state all _;
+        counted = λ h. sym (sum-ext n _ (λ b. 0) (λ b l. ap (λ (t : Bool). cond {A = ℕ} t 1 0) (none b)) ∙ sum-zero n);
+      }
+    where
+      none : (x : ℕ) → eqb (getD (replicate 128 0) x 0) 1 ≡ false
+      none x = ap (λ (y : ℕ). eqb y 1) (zeros 128 x)
 
 -- ---- what is known of the pile afterwards
 

@@ -1,11 +1,11 @@
 -- One bone's row, added up or added on: sums of a run of terms, and runs of sums that grow from one place to another.
 -- Assumes nothing.
-use Prim.Native.Nat.{ℕ, _+_, _≤_, _<_, _^_}
+use Prim.Native.Nat.{ℕ, zero, suc, _+_, _≤_, _<_, _^_}
 use mathlib.Core.Path.{_≡_, refl, sym, _∙_, ap, subst}
 use mathlib.Core.Bool.{Bool, true, false, cond, not, _&&_}
 use mathlib.Core.List.{List}
 use mathlib.Core.Logic.{⊎-elim}
-use native.Mathlib.Nat.{add-zero}
+use native.Mathlib.Nat.{add-zero, le-of-eq}
 use native.Mathlib.Numerals.{add-one}
 use native.Mathlib.Omega.{arith}
 use lib.Dec.{T, eqb, ltb, ltb→lt, nltb→le}
@@ -16,6 +16,13 @@ use Rattle.meaning.proofs.Tests.{decide, is-false, is-true, eq→eqb, ne→neqb
 use Rattle.meaning.proofs.Sets.{last-or-below}
 use Rattle.pairs.specs.Marks.{Room}
 use Rattle.growing.specs.Grow.{beside, Added}
+
+-- the first terms of a sum are at most all of them
+pub sum-part : (n m : ℕ) (f : ℕ → ℕ) → m ≤ n → sum m f ≤ sum n f
+unfolding sum
+sum-part zero m f h = let none : m ≡ 0 = omega arith in le-of-eq (ap (λ (i : ℕ). sum i f) none)
+sum-part (suc n) m f h =
+    ⊎-elim (λ (q : m ≡ suc n). le-of-eq (ap (λ (i : ℕ). sum i f) q)) (λ l. omega (arith, sum-part n m f (omega arith))) (last-or-below (suc n) (omega arith))
 
 -- what a bone of S adds to the degree of another; and to its own, nothing
 pub beside-other : (S : Bones) (b c x : ℕ) → (c ≡ b → ⊥) → cond (S c) x 0 ≡ cond (beside S b c) x 0

@@ -16,11 +16,13 @@ use Rattle.meaning.proofs.Sums.{sum-ext, sum-add, sum-one, sum-zero}
 use Rattle.meaning.proofs.Totals.{parts}
 use Rattle.growing.specs.Blocks.{reaches}
 use Rattle.pairs.specs.Marks.{marked}
-use Rattle.growing.specs.Grow.{with-bone, beside, degree, two-step, Undivided, joined, Added, Weighed, Spread, Measured, Tied, ByTwo, Chosen, steps}
+use Rattle.growing.specs.Grow.{with-bone, beside, degree, two-step, Undivided, joined, Added, Weighed, Spread, Measured, Tied, ByTwo, AllByTwo, Chosen, steps}
+use Rattle.growing.specs.Three.{want, spare, passing, ByThree}
 use Rattle.growing.proofs.Adjacency.{Closed}
 use Rattle.growing.proofs.Merging.{weight-on, closed-set}
-use Rattle.growing.proofs.Growing.{near, moved, degree-sides, reaches-parts, undivided-lone, undivided-direct, undivided-half, undivided-two-step, undivided-tied}
+use Rattle.growing.proofs.Growing.{near, moved, degree-sides, reaches-parts, undivided-lone, undivided-direct, undivided-half, undivided-two-step, undivided-tied, undivided-none, two-step-least}
 use Rattle.growing.proofs.GrowRows.{added-most}
+use Rattle.growing.proofs.Threes.{cuts, three-least}
 
 -- a smaller set is as undivided
 pub undivided-within : (n : ℕ) (w : Tally) (k : ℕ) (S L M : Bones) → ((x : ℕ) → T (L x) → T (M x)) → Undivided n w k S M → Undivided n w k S L
@@ -125,15 +127,17 @@ module _ {n : ℕ} {w : Tally} {k : ℕ} {S : Bones} {p : ℕ} {free degrees tie
       (omega (arith, state .weighed v t .heavy, state .weighed v t .noted)) (omega (arith, h, tie-of v t, state .weighed v t .noted)))
       (tied .tie small)
 
+  -- the free bones but v, as sets
+  free-beside : (v x : ℕ) → beside (marked free) v x ≡ (beside S v x && not (joined S (marked free) x))
+  unfolding beside joined
+  free-beside v x =
+      same-test (marked free x && not (eqb x v)) ((S x && not (eqb x v)) && not (S x && not (marked free x)))
+      (taut 3 (λ f s e. (f ⇒ s) ⊃ (f && not e) ⊃ so ((s && not e) && not (s && not f))) tt (marked free x) (S x) (eqb x v) (imp (marked free x) (S x) (free-in x)))
+      (taut 3 (λ f s e. ((s && not e) && not (s && not f)) ⊃ so (f && not e)) tt (marked free x) (S x) (eqb x v))
+
   steps-two : (v : ℕ) → T (marked free v) → steps n w (marked free) ties v ≡ two-step n w S (joined S (marked free)) v
-  unfolding steps two-step beside joined
-  steps-two v t = ap₂ _+_ (tie-of v t) (sum-ext n _ _ (λ x h. ap₂ (λ (b : Bool) (y : ℕ). cond b (min (w v x) y) 0) (same x) (state .tied x h)))
-    where
-      same : (x : ℕ) → (marked free x && not (eqb x v)) ≡ ((S x && not (eqb x v)) && not (S x && not (marked free x)))
-      same x =
-          same-test (marked free x && not (eqb x v)) ((S x && not (eqb x v)) && not (S x && not (marked free x)))
-          (taut 3 (λ f s e. (f ⇒ s) ⊃ (f && not e) ⊃ so ((s && not e) && not (s && not f))) tt (marked free x) (S x) (eqb x v) (imp (marked free x) (S x) (free-in x)))
-          (taut 3 (λ f s e. ((s && not e) && not (s && not f)) ⊃ so (f && not e)) tt (marked free x) (S x) (eqb x v))
+  unfolding steps two-step
+  steps-two v t = ap₂ _+_ (tie-of v t) (sum-ext n _ _ (λ x h. ap₂ (λ (b : Bool) (y : ℕ). cond b (min (w v x) y) 0) (free-beside v x) (state .tied x h)))
 
   pub rule-two : (v : ℕ) → v < 128 → ByTwo n w k (marked free) ties v → Undivided n w k S (with-bone (joined S (marked free)) v)
   rule-two v small by =
@@ -141,8 +145,48 @@ module _ {n : ℕ} {w : Tally} {k : ℕ} {S : Bones} {p : ℕ} {free degrees tie
       undivided-two-step n w symmetric k S (joined S (marked free)) (joined-in S (marked free)) (state .undivided) v (free-bone v t) (free-in v t)
       (le-trans (by .tie small) (le-of-eq (steps-two v t)))
 
+  pub rule-all : AllByTwo n w k (marked free) ties → (M : Bones) → Undivided n w k S M
+  unfolding AllByTwo joined
+  rule-all all =
+      undivided-none n w symmetric k S (joined S (marked free)) (joined-in S (marked free)) (state .undivided)
+      (λ v bone in-pile out B holds apart.
+      let t = taut 2 (λ s f. s ⊃ not (s && not f) ⊃ so f) tt (S v) (marked free v) in-pile out in
+      le-trans (all v bone t) (le-trans (le-of-eq (steps-two v t))
+      (two-step-least n w symmetric k S (joined S (marked free)) (joined-in S (marked free)) (state .undivided) v bone in-pile B holds apart)))
+
   pub rule-probed : (v : ℕ) → T (marked free v) → ((B : Bones) → ((x : ℕ) → T (joined S (marked free) x) → T (B x)) → T (not (B v)) → k ≤ weight n w S B) → Undivided n w k S (with-bone (joined S (marked free)) v)
   rule-probed v t heavy = undivided-tied n w symmetric k S (joined S (marked free)) (joined-in S (marked free)) (state .undivided) v (free-bone v t) (free-in v t) heavy
+
+  -- ---- paths of three: what they come to is what a split cuts of them
+  three-cuts : (v : ℕ) (B : Bones) → T (marked free v) → steps n w (marked free) ties v + (sum n (λ y. cond (B y) (want w (marked free) ties v y) 0) + sum n (passing n w (marked free) ties v B)) ≡ reaches n w v (joined S (marked free)) + sum n (cuts n w S (joined S (marked free)) v B)
+  unfolding steps want spare passing
+  three-cuts v B t =
+      let two : ℕ → ℕ = λ x. cond (beside (marked free) v x) (min (w v x) (getD ties x 0)) 0 in
+      let asked : ℕ → ℕ = λ x. cond (B x) (want w (marked free) ties v x) 0 in
+      let both-ways = sum-add n two (λ x. asked x + passing n w (marked free) ties v B x) in
+      let each = sum-add n asked (passing n w (marked free) ties v B) in
+      let same = sum-ext n (λ x. two x + (asked x + passing n w (marked free) ties v B x)) (cuts n w S (joined S (marked free)) v B)
+      (λ x h. at (beside (marked free) v x) (B x) (w v x) (getD ties x 0) (reaches n w x (λ y. beside (marked free) v y && not (B y)))
+      ∙ as-sets x h) in
+      omega (arith, both-ways, each, same, tie-of v t)
+    where
+      at : (m b : Bool) (a c r : ℕ) → cond m (min a c) 0 + (cond b (cond m (a - min a c) 0) 0 + cond m (cond b r (cond m (c - min a c) 0)) 0) ≡ cond m (cond b (a + r) c) 0
+      at true true a c r = omega arith
+      at true false a c r = omega arith
+      at false true a c r = omega arith
+      at false false a c r = omega arith
+
+      as-sets : (x : ℕ) → x < n → cond (beside (marked free) v x) (cond (B x) (w v x + reaches n w x (λ y. beside (marked free) v y && not (B y))) (getD ties x 0)) 0 ≡ cuts n w S (joined S (marked free)) v B x
+      as-sets x h =
+          ap₂ (λ (m : Bool) (y : ℕ). cond m (cond (B x) (w v x + reaches n w x (λ y. beside (marked free) v y && not (B y))) y) 0) (free-beside v x) (state .tied x h)
+          ∙ ap (λ (r : ℕ). cond (beside S v x && not (joined S (marked free) x)) (cond (B x) (w v x + r) (reaches n w x (joined S (marked free)))) 0) (reaches-same n w x _ _ (λ y. ap (λ (m : Bool). m && not (B y)) (free-beside v y)))
+
+  pub rule-three : (v : ℕ) → T (marked free v) → ByThree n w k (marked free) ties v (steps n w (marked free) ties v) → Undivided n w k S (with-bone (joined S (marked free)) v)
+  unfolding ByThree
+  rule-three v t enough =
+      rule-probed v t
+      (λ B holds apart. le-trans (enough B) (le-trans (le-of-eq (three-cuts v B t))
+      (three-least n w symmetric S (joined S (marked free)) (joined-in S (marked free)) v (free-bone v t) (free-in v t) B holds apart)))
 
   -- ---- a bone joins
   module _ (out left : ℕ) (size : Measured n w S free ties out left) (v : ℕ) (isfree : T (marked free v)) where

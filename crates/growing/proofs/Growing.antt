@@ -203,6 +203,15 @@ module _ (n : ℕ) (w : Tally) (symmetric : Symmetric w) (k : ℕ) (S : Bones) w
         absurd (T-not (r .0 (q .y)) (q .y-side) (r .3 (q .y) (all (q .y) (q .y-bone) (q .y-set)))))
         (decide (leb k (weight n w S A))))
 
+    -- every split that leaves out a bone beside L, but none of L, weighs k or more: there is no light split, which divides no set
+    pub undivided-none : ((v : ℕ) → v < n → T (S v) → T (not (L v)) → (B : Bones) → ((x : ℕ) → T (L x) → T (B x)) → T (not (B v)) → k ≤ weight n w S B) → (M : Bones) → Undivided n w k S M
+    unfolding Undivided
+    undivided-none heavy M A s l =
+        let r = kept A s l in
+        let q = splits-elim n S (r .0) (r .1) in
+        let out = not-T (L (q .y)) (λ t. T-not (r .0 (q .y)) (q .y-side) (r .3 (q .y) t)) in
+        absurd (omega (arith, r .2, heavy (q .y) (q .y-bone) (q .y-set) out (r .0) (r .3) (q .y-side)))
+
     module _ (v : ℕ) (bone : v < n) (in-pile : T (S v)) where
       -- every split that parts v from L weighs k or more
       pub undivided-tied : ((B : Bones) → ((x : ℕ) → T (L x) → T (B x)) → T (not (B v)) → k ≤ weight n w S B) → Undivided n w k S (with-bone L v)
@@ -218,7 +227,7 @@ module _ (n : ℕ) (w : Tally) (symmetric : Symmetric w) (k : ℕ) (S : Bones) w
                 (either (L x) (eqb x v) t),
           )
 
-      two-step-least : (B : Bones) → ((x : ℕ) → T (L x) → T (B x)) → T (not (B v)) → two-step n w S L v ≤ weight n w S B
+      pub two-step-least : (B : Bones) → ((x : ℕ) → T (L x) → T (B x)) → T (not (B v)) → two-step n w S L v ≤ weight n w S B
       unfolding weight two-step cross
       two-step-least B holds apart =
           let by-way : Pairs = λ i j. eqb j v && ((S i && B i) && not (L i)) in

@@ -5,6 +5,8 @@ pub mod Merging
 pub mod Growing
 pub mod Seen
 pub mod GrowRows
+pub mod Sending
+pub mod Threes
 pub mod GrowState
 pub mod GrowEnds
 pub mod WaysListed

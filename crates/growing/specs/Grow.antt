@@ -93,6 +93,10 @@ pub record ByTwo (n : ℕ) (w : Tally) (k : ℕ) (free : Bones) (ties : List ℕ
   pub one : bone < 128 → T (free bone)
   pub tie : bone < 128 → k ≤ steps n w free ties bone
 
+-- it is k or more for every free bone
+unfoldable pub AllByTwo : ℕ → Tally → ℕ → Bones → List ℕ → Type 0
+AllByTwo n w k free ties = (v : ℕ) → v < n → T (free v) → k ≤ steps n w free ties v
+
 -- a light side of S without p, as marks of its bones
 pub record LightMarks (n : ℕ) (w : Tally) (k : ℕ) (S : Bones) (p : ℕ) (marks : List ℕ) (weighs : ℕ) : Type 0 where
   pub long : length marks ≡ 128

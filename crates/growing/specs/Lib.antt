@@ -2,3 +2,4 @@
 pub mod Blocks
 pub mod Grow
 pub mod Listing
+pub mod Three

@@ -1,5 +1,6 @@
 // Growing a set from a pile's least bone, before any pass: no light split of the pile need divide it. Bones join it one by one while a rule
 // allows; most piles are settled so, and what is left goes to the passes as one large block and single bones.
+use crate::all::all_tied;
 use crate::row::add_row;
 use crate::row::degree_of;
 use crate::tied::choose;
@@ -128,6 +129,14 @@ fn spread(
                 light: true,
                 left,
                 weight: out,
+            };
+        }
+        if all_tied(table, free, &ties, n, k, pairs, 1 + others - left) {
+            *free = [0u8; 128];
+            return Growth {
+                light: false,
+                left: 0,
+                weight: 0,
             };
         }
         let got = choose(

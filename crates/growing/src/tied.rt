@@ -2,6 +2,7 @@
 // marked; `ties` has each bone's tally with the grown set.
 use crate::probe::probe;
 use crate::row::pair;
+use crate::three::by_three;
 ghost use mathlib.Core.Path.{_≡_};
 ghost use mathlib.Core.Bool.{cond, false};
 ghost use Prim.Native.Nat.{ℕ, _+_, _*_, _<_, _≤_, _^_, min};
@@ -35,7 +36,7 @@ fn tied(free: &[u8; 128], degrees: &[u64; 128], ties: &[u64; 128], n: usize, k: 
 }
 
 // What a path of two by way of bone x adds, where x is free: the lesser of a tally and x's tie.
-fn step(free: &[u8; 128], ties: &[u64; 128], x: usize, tally: u64) -> u64
+pub(crate) fn step(free: &[u8; 128], ties: &[u64; 128], x: usize, tally: u64) -> u64
     requires { ⌜ x < 128 ⌝ }
     ensures { λ r. ⌜ (r ≡ cond (marked (now (free .entry)) x) (min tally (getD (now (ties .entry)) x 0)) 0) × (r ≤ tally) ⌝ }
 {
@@ -48,7 +49,12 @@ fn step(free: &[u8; 128], ties: &[u64; 128], x: usize, tally: u64) -> u64
 }
 
 // The tie of bone v, and its paths of two by way of lesser bones.
-fn steps_below(table: &[u32; 16384], free: &[u8; 128], ties: &[u64; 128], v: usize) -> u64
+pub(crate) fn steps_below(
+    table: &[u32; 16384],
+    free: &[u8; 128],
+    ties: &[u64; 128],
+    v: usize,
+) -> u64
     requires { ⌜ (v < 128) × (getD (now ties) v 0 ≤ 2 ^ 40) ⌝ }
     ensures { λ r. ⌜ (r ≡ getD (now (ties .entry)) v 0 + sum v (λ x. cond (beside (marked (now (free .entry))) v x) (min (held (now (table .entry)) v x) (getD (now (ties .entry)) x 0)) 0)) × (r ≤ 2 ^ 40 + v * 2 ^ 32) ⌝ }
 {
@@ -62,7 +68,7 @@ fn steps_below(table: &[u32; 16384], free: &[u8; 128], ties: &[u64; 128], v: usi
 // The tie of bone v, and its paths of two to the grown set.
 fn steps_of(table: &[u32; 16384], free: &[u8; 128], ties: &[u64; 128], n: usize, v: usize) -> u64
     requires { ⌜ (n ≤ 128) × (v < n) × (getD (now ties) v 0 ≤ 2 ^ 40) ⌝ }
-    ensures { λ r. ⌜ r ≡ steps n (held (now (table .entry))) (marked (now (free .entry))) (now (ties .entry)) v ⌝ }
+    ensures { λ r. ⌜ (r ≡ steps n (held (now (table .entry))) (marked (now (free .entry))) (now (ties .entry)) v) × (r ≤ 2 ^ 41) ⌝ }
 {
     let mut total = steps_below(table, free, ties, v);
     for x in v + 1..n {
@@ -136,7 +142,8 @@ fn joining(bone: usize, pairs: usize) -> Choice
 }
 
 // A bone that is tied by k or by half of its degree; else the bone with the greatest tie, where it is tied by paths of two or a probe tells
-// that it can join. Where the probe tells nothing, as in a pile of many pairs, any bone that is tied by paths of two.
+// that it can join. Where the probe tells nothing, as in a pile of many pairs, the same bone where it is tied by paths of three, or any bone
+// that is tied by paths of two.
 pub(crate) fn choose(
     table: &[u32; 16384],
     names: &[u8; 128],
@@ -167,7 +174,8 @@ pub(crate) fn choose(
     if 128 <= t {
         return joining(t, m);
     }
-    if k <= steps_of(table, free, ties, n, t) {
+    let two = steps_of(table, free, ties, n, t);
+    if k <= two {
         return joining(t, m);
     }
     let got = probe(table, names, n, k, p, t, ways, next, first, m, res, free);
@@ -183,6 +191,9 @@ pub(crate) fn choose(
             weight: got.weight,
             pairs,
         };
+    }
+    if by_three(table, free, ties, n, k, t, two) {
+        return joining(t, pairs);
     }
     joining(tied_by_two(table, free, ties, n, k), pairs)
 }

@@ -13,9 +13,10 @@ use Rattle.pairs.specs.Side.{heapOf}
 use Rattle.pairs.specs.Marks.{marked}
 use Rattle.growing.specs.Grow.{ByTwo, Chosen}
 use Rattle.growing.specs.Listing.{Ready}
+use Rattle.growing.specs.Three.{ByThree}
 use Rattle.pairs.proofs.TableHeld.{held-symmetric}
 use Rattle.growing.proofs.GrowEnds.{beside-below}
-use Rattle.growing.proofs.GrowState.{rule-tied, rule-two, rule-probed, chosen}
+use Rattle.growing.proofs.GrowState.{rule-tied, rule-two, rule-probed, rule-three, chosen}
 use borrow.Author.Needs.{needs}
 use Rattle.growing.proofs.tied.choose.Statement.{statement}
 use Rattle.growing.proofs.tied.choose.Tie as tie
@@ -65,7 +66,7 @@ returns-3 : tie.Need-returns-3
 returns-3 c =
     let s = c .before .before .before .before .before .before .before .before .before .before in
     let t = c .before .before .before .before .before .nearest in (
-      chosen (t .result) (c .joining3 .ensures .0) (c .joining3 .ensures .1) (t .ensures) (λ h. rule-two (held-symmetric (s .args .table .now)) (pile-bone (s .args .n) (heapOf (s .args .names .now)) (s .args .p)) (s .pre .0 .0) (s .pre .1 .0) (t .result) h (record { one = t .ensures; tie = λ o. omega (arith, c .before .if3 .taken, c .before .before .steps-of .ensures) })),
+      chosen (t .result) (c .joining3 .ensures .0) (c .joining3 .ensures .1) (t .ensures) (λ h. rule-two (held-symmetric (s .args .table .now)) (pile-bone (s .args .n) (heapOf (s .args .names .now)) (s .args .p)) (s .pre .0 .0) (s .pre .1 .0) (t .result) h (record { one = t .ensures; tie = λ o. omega (arith, c .before .if3 .taken, c .before .before .steps-of .ensures .0) })),
       (still s (c .joining3 .ensures .2), s .pre .0 .1),
     )
 
@@ -105,29 +106,60 @@ returns-5 c =
       (r .1 .1, r .1 .0),
     )
 
-tied-by-two-requires : tie.Need-tied-by-two-requires
-tied-by-two-requires c κs =
+by-three-requires : tie.Need-by-three-requires
+by-three-requires c κs =
     let s = c .before .before .before .before .before .before .before .before .before .before .before .before .before .before .before .before .before .before in
-    (s .pre .0 .0, s .pre .1 .0 .most)
+    let t = c .before .before .before .before .before .before .before .before .before .before .before .before .before .nearest in (
+      s .pre .0 .0,
+      beside-below (s .args .n) (pile (s .args .n) (heapOf (s .args .names .now)) (s .args .p)) (s .args .p) (pile-bone (s .args .n) (heapOf (s .args .names .now)) (s .args .p)) (t .result) (s .pre .1 .0 .others (t .result) (t .ensures (c .before .before .before .before .before .before .before .before .before .before .before .before .if2 .left))),
+      c .before .before .before .before .before .before .before .before .before .before .steps-of .ensures .1,
+      s .pre .1 .0 .most,
+    )
 
 joining-requires-5 : tie.Need-joining-requires-5
 joining-requires-5 c κs = search needs
 
 returns-6 : tie.Need-returns-6
 returns-6 c =
-    let s = c .before .before .before .before .before .before .before .before .before .before .before .before .before .before .before .before .before .before .before .before in
+    let s = c .before .before .before .before .before .before .before .before .before .before .before .before .before .before .before .before .before .before .before .before .before in
+    let t = c .before .before .before .before .before .before .before .before .before .before .before .before .before .before .before .before .nearest in
+    let r = c .before .before .before .before .before .before .probe .ensures in
+    let same = r .0 .same (c .before .before .before .before .if5 .left) in
+    let n = s .args .n in
+    let w = held (s .args .table .now) in
+    let S = pile n (heapOf (s .args .names .now)) (s .args .p) in
+    let three = subst (λ (m : List ℕ). ByThree n w (s .args .k) (marked m) (s .args .ties .now) (t .result) (c .before .before .before .before .before .before .before .before .before .before .before .before .before .steps-of .result)) same (c .before .before .by-three .ensures (c .before .if6 .taken)) in
+    let tied = subst (ByThree n w (s .args .k) (marked (s .args .free .now)) (s .args .ties .now) (t .result)) (c .before .before .before .before .before .before .before .before .before .before .before .before .before .steps-of .ensures .0) three in (
+      subst
+          (λ (m : List ℕ). Chosen n w (s .args .k) S (s .args .p) (s .args .free .now) m (c .joining5 .result .bone) (c .joining5 .result .light) (c .joining5 .result .weight))
+          (sym same)
+          (chosen (t .result) (c .joining5 .ensures .0) (c .joining5 .ensures .1) (t .ensures) (λ h. rule-three (held-symmetric (s .args .table .now)) (pile-bone n (heapOf (s .args .names .now)) (s .args .p)) (s .pre .0 .0) (s .pre .1 .0) (t .result) (t .ensures h) tied)),
+      (subst (Ready n w (s .args .k) S _) (sym (c .joining5 .ensures .2)) (r .1 .1), r .1 .0),
+    )
+
+tied-by-two-requires : tie.Need-tied-by-two-requires
+tied-by-two-requires c κs =
+    let s = c .before .before .before .before .before .before .before .before .before .before .before .before .before .before .before .before .before .before .before .before .before in
+    (s .pre .0 .0, s .pre .1 .0 .most)
+
+joining-requires-6 : tie.Need-joining-requires-6
+joining-requires-6 c κs = search needs
+
+returns-7 : tie.Need-returns-7
+returns-7 c =
+    let s = c .before .before .before .before .before .before .before .before .before .before .before .before .before .before .before .before .before .before .before .before .before .before .before in
     let u = c .before .tied-by-two in
-    let r = c .before .before .before .before .before .probe .ensures in
-    let same = r .0 .same (c .before .before .before .if5 .left) in
+    let r = c .before .before .before .before .before .before .before .before .probe .ensures in
+    let same = r .0 .same (c .before .before .before .before .before .before .if5 .left) in
     let n = s .args .n in
     let w = held (s .args .table .now) in
     let S = pile n (heapOf (s .args .names .now)) (s .args .p) in
     let two = subst (λ (m : List ℕ). ByTwo n w (s .args .k) (marked m) (s .args .ties .now) (u .result)) same (u .ensures) in (
       subst
-          (λ (m : List ℕ). Chosen n w (s .args .k) S (s .args .p) (s .args .free .now) m (c .joining5 .result .bone) (c .joining5 .result .light) (c .joining5 .result .weight))
+          (λ (m : List ℕ). Chosen n w (s .args .k) S (s .args .p) (s .args .free .now) m (c .joining6 .result .bone) (c .joining6 .result .light) (c .joining6 .result .weight))
           (sym same)
-          (chosen (u .result) (c .joining5 .ensures .0) (c .joining5 .ensures .1) (two .one) (λ h. rule-two (held-symmetric (s .args .table .now)) (pile-bone n (heapOf (s .args .names .now)) (s .args .p)) (s .pre .0 .0) (s .pre .1 .0) (u .result) h two)),
-      (subst (Ready n w (s .args .k) S _) (sym (c .joining5 .ensures .2)) (r .1 .1), r .1 .0),
+          (chosen (u .result) (c .joining6 .ensures .0) (c .joining6 .ensures .1) (two .one) (λ h. rule-two (held-symmetric (s .args .table .now)) (pile-bone n (heapOf (s .args .names .now)) (s .args .p)) (s .pre .0 .0) (s .pre .1 .0) (u .result) h two)),
+      (subst (Ready n w (s .args .k) S _) (sym (c .joining6 .ensures .2)) (r .1 .1), r .1 .0),
     )
 
 pub choose-spec : {M : Type 1} → statement M
@@ -147,6 +179,9 @@ choose-spec =
     joining-requires-4
     returns-4
     returns-5
-    tied-by-two-requires
+    by-three-requires
     joining-requires-5
-    returns-6)
+    returns-6
+    tied-by-two-requires
+    joining-requires-6
+    returns-7)

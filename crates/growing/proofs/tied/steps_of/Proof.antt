@@ -84,7 +84,7 @@ returns c =
     let l = c .before .loop in
     let a = c .before .before .before .args in
     let all : l .x ≡ a .n = omega arith in
-    l .inv .2 ∙ ap (λ (m : ℕ). getD (a .ties .now) (a .v) 0 + sum m (λ i. cond (beside (marked (a .free .now)) (a .v) i) (min (held (a .table .now) (a .v) i) (getD (a .ties .now) i 0)) 0)) all
+    (l .inv .2 ∙ ap (λ (m : ℕ). getD (a .ties .now) (a .v) 0 + sum m (λ i. cond (beside (marked (a .free .now)) (a .v) i) (min (held (a .table .now) (a .v) i) (getD (a .ties .now) i 0)) 0)) all, omega arith)
 
 pub steps-of-spec : {M : Type 1} → statement M
 steps-of-spec =
