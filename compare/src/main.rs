@@ -99,20 +99,21 @@ impl Tally {
 
     fn hold(&mut self, cases: &[Case]) {
         for (case, outcome) in cases.iter().zip(self.product.outcomes(cases)) {
-            match outcome.and_then(|outcome| self.judge.hold(case, &outcome)) {
-                Ok(()) => self.held += 1,
-                Err(what) => self.fail(case, &what),
-            }
+            self.settle(case, outcome);
         }
     }
 
     /// Holds one case and gives what came of it, if it is good.
     fn hold_one(&mut self, case: Case) -> Option<Outcome> {
         let outcome = self.product.outcomes(std::slice::from_ref(&case)).remove(0);
-        let good = outcome.and_then(|outcome| self.judge.hold(&case, &outcome).map(|()| outcome));
+        self.settle(&case, outcome)
+    }
+
+    fn settle(&mut self, case: &Case, outcome: Result<Outcome, String>) -> Option<Outcome> {
+        let good = outcome.and_then(|outcome| self.judge.hold(case, &outcome).map(|()| outcome));
         match &good {
             Ok(_) => self.held += 1,
-            Err(what) => self.fail(&case, what),
+            Err(what) => self.fail(case, what),
         }
         good.ok()
     }
@@ -200,9 +201,12 @@ fn report(tally: &Tally, start: Instant) -> bool {
     if !missing.is_empty() {
         println!("rows met less than twice: {missing:?}");
     }
+    if tally.held == 0 {
+        println!("nothing was compared");
+    }
     println!("compared in {:.0} s", start.elapsed().as_secs_f64());
     println!("{} passed, {} failed", tally.held, tally.failed + missing.len() as u64);
-    tally.failed == 0 && missing.is_empty()
+    tally.held > 0 && tally.failed == 0 && missing.is_empty()
 }
 
 fn replay(tally: &mut Tally, path: &PathBuf) -> Result<bool, String> {
