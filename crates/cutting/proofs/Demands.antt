@@ -4,10 +4,9 @@
 use Prim.Native.Nat.{ℕ, _+_, _*_, _-_, _/_, _%_, _≤_, _<_}
 use mathlib.Core.Path.{_≡_, refl, sym, _∙_, ap, ap₂, subst}
 use mathlib.Core.Logic.{_⊎_, inl, inr}
-use mathlib.Core.Bool.{Bool, true, false}
-use mathlib.Core.List.{List, [], _∷_, _++_}
+use mathlib.Core.Bool.{Bool, true}
+use mathlib.Core.List.{List}
 use native.Mathlib.Omega.{arith}
-use lib.Dec.{T}
 use lib.ListN.{length, take, length-take}
 use Rattle.meaning.specs.declared.Link.{Link}
 use Rattle.meaning.specs.declared.Judged.{Judged}
@@ -18,17 +17,19 @@ use Rattle.meaning.specs.Firm.{label, groups}
 use Rattle.meaning.specs.Heap.{start, piles, LawfulRun, left, weights, between, finished}
 use Rattle.meaning.proofs.Tallies.{pairTally-symmetric}
 use Rattle.meaning.proofs.Ends.{weights-between}
-use Rattle.weighing.specs.Links.{tableRows}
-use Rattle.weighing.proofs.LinksRows.{Counted, table-counted}
+use Rattle.pairs.specs.Links.{tableRows}
+use Rattle.pairs.proofs.LinksRows.{Counted, table-counted}
 use Rattle.cutting.specs.declared.Answer.{Answer}
 use Rattle.cutting.specs.declared.Answer.the-variants.{Gave, Refused as Refused·answer}
 use Rattle.cutting.specs.declared.Thinned.{Thinned}
-use Rattle.cutting.specs.Record.{entrySize, cutsIn, cutsOf}
-use Rattle.cutting.specs.Rows.{recordRows, entriesRows, checkingRows, groupingRows}
-use Rattle.cutting.specs.Calls.{settled, written, answered, Checking, Recorded, Continued, Grouping, Thinning}
-use Rattle.cutting.proofs.Names.{names-same}
-use Rattle.cutting.proofs.Cuts.{length-cuts}
-use Rattle.cutting.proofs.Lawful.{Stopped, narrow-cuts, entries-lawful, lawful-entries, entries-stop, record-fits}
+use Rattle.heaps.specs.Record.{entrySize, cutsOf}
+use Rattle.heaps.specs.Rows.{recordRows, entriesRows}
+use Rattle.cutting.specs.Rows.{checkingRows, groupingRows}
+use Rattle.heaps.specs.Names.{settled, written}
+use Rattle.cutting.specs.Calls.{answered, Checking, Recorded, Continued, Grouping, Thinning}
+use Rattle.heaps.proofs.Names.{written-same}
+use Rattle.heaps.proofs.Cuts.{length-cuts}
+use Rattle.heaps.proofs.Lawful.{Stopped, narrow-cuts, entries-lawful, lawful-entries, entries-stop, record-fits}
 use Rattle.cutting.proofs.Finish.{cuts-most, run-labels, run-groups, run-cuts}
 use Rattle.cutting.proofs.Carried.{checking-core, grouping-core, label-fits, space-fits}
 use Rattle.cutting.proofs.Continuing.{Sound}
@@ -101,14 +102,14 @@ module _ (n k : ℕ) (good : Bool) (links : List Link) (judged : first (tableRow
     -- handed to checking it is finished, with the same count and labels
     pub own-checked : (labels labels′ : List ℕ) (r : Answer) → n ≤ length labels → Checking n k good links own labels labels′ r
         → (r ≡ Gave (groups n (pairTally links) k) true) × (labels′ ≡ written n (label n (pairTally links) k) labels)
-    unfolding answered settled written own
+    unfolding answered settled own
     own-checked labels labels′ r l g =
         let e = checking-accepted own (length labels) l own-sound in
         let p = run-groups n (pairTally links) k (counted .some-bones) (cutsOf own) (c .lawful) (c .done) in
-        let h = names-same n (left n start (cutsOf own)) (label n (pairTally links) k) (run-labels n (pairTally links) k (counted .some-bones) (cutsOf own) (c .lawful) (c .done)) in (
+        let h = written-same n (left n start (cutsOf own)) (label n (pairTally links) k) labels (run-labels n (pairTally links) k (counted .some-bones) (cutsOf own) (c .lawful) (c .done)) in (
           g .answer ∙ ap (λ (j : Judged). answered j (piles n (left n start (cutsOf own))) (finished n (pairTally links) k (left n start (cutsOf own)))) e
               ∙ ap₂ Gave p (Rattle.meaning.proofs.Tests.is-true (finished n (pairTally links) k (left n start (cutsOf own))) (c .done)),
-          g .names-left ∙ ap (λ (j : Judged). settled j labels (written n (left n start (cutsOf own)) labels)) e ∙ ap (λ (x : List ℕ). x ++ lib.ListN.drop n labels) h,
+          g .names-left ∙ ap (λ (j : Judged). settled j labels (written n (left n start (cutsOf own)) labels)) e ∙ h,
         )
 
     -- grouped again, nothing is added to it

@@ -17,13 +17,14 @@ use Rattle.meaning.specs.Judge.{refuse, first}
 use Rattle.meaning.specs.Tally.{Tally}
 use Rattle.meaning.specs.Firm.{label}
 use Rattle.meaning.specs.Heap.{Heap}
-use Rattle.weighing.specs.Links.{linksOf, linkAt, linkRows, linksRows, tableRows}
-use Rattle.weighing.proofs.LinksBytes.{linksOf-next, linksOf-end}
-use Rattle.weighing.proofs.LinksRows.{Proper, Propers, first-accepted, first-refused, link-accepted, links-here, links-next}
+use Rattle.pairs.specs.Links.{linksOf, linkAt, linkRows, linksRows, tableRows}
+use Rattle.pairs.proofs.LinksBytes.{linksOf-next, linksOf-end}
+use Rattle.pairs.proofs.LinksRows.{Proper, Propers, first-accepted, first-refused, link-accepted, links-here, links-next}
 use Rattle.cutting.specs.declared.Thinned.{Thinned}
 use Rattle.cutting.specs.declared.Thinned.the-variants.{Kept, Refused as Refused·thinned}
 use Rattle.cutting.specs.Rows.{linkRow, thinningRows}
-use Rattle.cutting.specs.Calls.{settled, kept, linkBytes, over, keeping, Thins}
+use Rattle.heaps.specs.Names.{settled}
+use Rattle.cutting.specs.Calls.{kept, linkBytes, over, keeping, Thins}
 use Rattle.cutting.specs.Thin.{Keeps}
 use Rattle.cutting.proofs.Alike.{Alike, label-alike}
 

@@ -1,5 +1,5 @@
 -- What the calls promise: the answer, and every lent byte afterwards.
-use Prim.Native.Nat.{ℕ, zero, suc, _*_, _-_, _/_, _%_}
+use Prim.Native.Nat.{ℕ, _*_, _-_, _/_, _%_}
 use mathlib.Core.Path.{_≡_}
 use mathlib.Core.Bool.{Bool, true, cond}
 use mathlib.Core.List.{List, [], _∷_, _++_}
@@ -16,21 +16,9 @@ use Rattle.cutting.specs.declared.Answer.{Answer}
 use Rattle.cutting.specs.declared.Answer.the-variants.{Gave, Refused as Refused·answer}
 use Rattle.cutting.specs.declared.Thinned.{Thinned}
 use Rattle.cutting.specs.declared.Thinned.the-variants.{Kept, Refused as Refused·thinned}
-use Rattle.cutting.specs.Record.{entrySize, cutsOf}
+use Rattle.heaps.specs.Record.{entrySize, cutsOf}
+use Rattle.heaps.specs.Names.{settled, written}
 use Rattle.cutting.specs.Rows.{checkingRows, groupingRows, thinningRows}
-
--- what is left in lent room: as it was where refused
-unfoldable pub settled : Judged → List ℕ → List ℕ → List ℕ
-settled Accepted was new = new
-settled (Refused number place) was new = was
-
--- the names of bones 0 to n − 1; written to lent room, the rest stays
-unfoldable pub names : ℕ → Heap → List ℕ
-names zero h = []
-names (suc n) h = names n h ++ h n ∷ []
-
-unfoldable pub written : ℕ → Heap → List ℕ → List ℕ
-written n h room = names n h ++ drop n room
 
 -- bytes written to the front of lent room
 unfoldable pub over : List ℕ → List ℕ → List ℕ

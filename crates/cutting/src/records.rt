@@ -3,17 +3,18 @@
 use crate::Answer;
 use crate::check::check_table;
 use crate::group::group_table;
+use lent::records::fill_records;
 use meaning::Judged;
 use meaning::Link;
-use weighing::records::fill_records;
 ghost use mathlib.Core.Path.{_≡_};
 ghost use mathlib.Core.Bool.{true};
 ghost use mathlib.Core.List.{_∷_};
 ghost use Prim.Native.Nat.{_≤_, _<_};
 ghost use lib.ListN.{length};
 ghost use Rattle.meaning.specs.declared.Judged.the-variants.{Accepted};
-ghost use Rattle.weighing.specs.Table.{held};
-ghost use Rattle.cutting.specs.Rows.{labelRow, spaceRow, recordRows};
+ghost use Rattle.pairs.specs.Table.{held};
+ghost use Rattle.heaps.specs.Rows.{recordRows};
+ghost use Rattle.cutting.specs.Rows.{labelRow, spaceRow};
 ghost use Rattle.cutting.specs.Calls.{Checked, Checking, Grouped, Grouping};
 
 // Checking once the links were judged and added: their refusal, or what the table gives.

@@ -1,8 +1,8 @@
 // Thinning: the links whose ends share a group stay.
 use crate::Thinned;
 use crate::group::finish;
-use crate::record::Record;
-use crate::record::copy;
+use heaps::record::Record;
+use heaps::record::copy;
 use meaning::Judged;
 use weighing::fill;
 ghost use mathlib.Core.Path.{_≡_};
@@ -14,9 +14,9 @@ ghost use Rattle.meaning.specs.declared.Judged.the-variants.{Accepted};
 ghost use Rattle.meaning.specs.Judge.{first};
 ghost use Rattle.meaning.specs.Firm.{label};
 ghost use Rattle.meaning.specs.Heap.{start};
-ghost use Rattle.weighing.specs.Links.{whole, linksOf, linkAt, linksRows};
-ghost use Rattle.weighing.specs.Side.{heapOf};
-ghost use Rattle.weighing.specs.Table.{held};
+ghost use Rattle.pairs.specs.Links.{whole, linksOf, linkAt, linksRows};
+ghost use Rattle.pairs.specs.Side.{heapOf};
+ghost use Rattle.pairs.specs.Table.{held};
 ghost use Rattle.cutting.specs.Rows.{linkRow};
 ghost use Rattle.cutting.specs.Thin.{Keeps};
 ghost use Rattle.cutting.specs.Calls.{kept as keptLinks, linkBytes, over, Thins, Thinning};

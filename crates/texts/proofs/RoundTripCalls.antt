@@ -14,10 +14,10 @@ use Rattle.meaning.specs.declared.Judged.{Judged}
 use Rattle.meaning.specs.declared.Judged.the-variants.{Accepted, Refused}
 use Rattle.meaning.specs.Judge.{refuse, first}
 use Rattle.meaning.proofs.Tests.{fails, decide, taut, so, _⊃_}
-use Rattle.weighing.specs.Links.{countRows, linksRows, tableRows}
-use Rattle.weighing.proofs.LinksRows.{first-accepted, accepted-left, accepted-right, Counted, counts-accepted}
-use Rattle.cutting.specs.Record.{entrySize}
-use Rattle.cutting.specs.Rows.{recordRow}
+use Rattle.pairs.specs.Links.{countRows, linksRows, tableRows}
+use Rattle.pairs.proofs.LinksRows.{first-accepted, accepted-left, accepted-right, Counted, counts-accepted}
+use Rattle.heaps.specs.Record.{entrySize}
+use Rattle.heaps.specs.Rows.{recordRow}
 use Rattle.reading.specs.declared.Reading.{Reading}
 use Rattle.reading.specs.declared.Reading.the-variants.{Got}
 use Rattle.texts.specs.declared.Written.{Written}

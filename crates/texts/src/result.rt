@@ -12,7 +12,7 @@ ghost use lib.Dec.{ltb};
 ghost use lib.ListN.{length};
 ghost use Rattle.meaning.specs.Judge.{refuse};
 ghost use Rattle.meaning.specs.declared.Judged.the-variants.{Accepted};
-ghost use Rattle.weighing.specs.Records.{firstOf};
+ghost use Rattle.lent.specs.Records.{firstOf};
 ghost use Rattle.texts.specs.Writers.{resultText, Writes};
 ghost use Rattle.texts.specs.Writing.{over, Named};
 

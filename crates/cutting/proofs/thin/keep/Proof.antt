@@ -2,7 +2,7 @@
 use Prim.Native.Nat.{_/_, _-_}
 use native.Mathlib.Omega.{arith}
 use lib.ListN.{length}
-use Rattle.weighing.specs.Side.{heapOf}
+use Rattle.pairs.specs.Side.{heapOf}
 use Rattle.cutting.proofs.Keeping.{Keeping, keeping-start, keeping-proper, keeping-next, keeping-end}
 use Rattle.cutting.proofs.thin.keep.Statement.{statement}
 use Rattle.cutting.proofs.thin.keep.Tie as tie

@@ -5,7 +5,8 @@ use native.Mathlib.Omega.{arith}
 use lib.ListN.{length, take, drop, length-take, length-drop}
 use lib.Seq.{paste}
 use borrow.Author.Tests.{not-true, not-false}
-use Rattle.weighing.specs.Links.{linkAt}
+use Rattle.pairs.specs.Links.{linkAt}
+use Rattle.heaps.proofs.Entries.{paste-fits}
 use Rattle.cutting.proofs.Keeping.{keeps-not, keeps-it}
 use borrow.Author.Needs.{needs}
 use Rattle.cutting.proofs.thin.keep_link.Statement.{statement}
@@ -64,6 +65,7 @@ returns-2 c =
     let long : length (take 4 rest) ≡ 4 = simp (length-take, length-drop) (omega arith) in
     keeps-it _ _ _ _ _ _ (sym (c .before .before .before .before .before .before .same-pile .ensures) ∙ not-false _ (c .before .before .before .before .before .if1 .left))
     (c .before .before .copy .ensures
+    ∙ paste-fits (a .space .now) (a .kept * 4) (take (a .i * 4 + 4 - a .i * 4) rest) (omega (arith, ap (λ (m : ℕ). length (take m rest)) four, long, c .before .before .before .before .before .before .before .before .before .before .before .pre .1))
     ∙ ap (λ (m : ℕ). paste (a .space .now) (a .kept * 4) (take m rest) (length (take m rest))) four
     ∙ ap (λ (m : ℕ). paste (a .space .now) (a .kept * 4) (take 4 rest) m) long)
 

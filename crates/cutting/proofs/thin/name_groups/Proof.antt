@@ -2,7 +2,7 @@
 use Prim.Native.Nat.{ℕ, _*_}
 use native.Mathlib.Omega.{arith}
 use lib.ListN.{length-replicate}
-use Rattle.cutting.specs.Record.{entrySize}
+use Rattle.heaps.specs.Record.{entrySize}
 use Rattle.cutting.proofs.Continuing.{empty-begins, ended-label}
 use borrow.Author.Needs.{needs}
 use Rattle.cutting.proofs.thin.name_groups.Statement.{statement}

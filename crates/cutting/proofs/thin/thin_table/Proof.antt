@@ -1,11 +1,11 @@
 -- `cutting::thin::thin_table` meets its contract. Assumes nothing.
 use mathlib.Core.Path.{refl}
 use native.Mathlib.Omega.{arith}
-use Rattle.weighing.specs.Links.{linksOf}
-use Rattle.weighing.specs.Side.{heapOf}
-use Rattle.weighing.proofs.LinksBytes.{length-linksOf}
-use Rattle.weighing.proofs.LinksRows.{links-accepted, links-proper, propers-more}
-use Rattle.cutting.proofs.Parting.{heap-start}
+use Rattle.pairs.specs.Links.{linksOf}
+use Rattle.pairs.specs.Side.{heapOf}
+use Rattle.pairs.proofs.LinksBytes.{length-linksOf}
+use Rattle.pairs.proofs.LinksRows.{links-accepted, links-proper, propers-more}
+use Rattle.heaps.proofs.Parting.{heap-start}
 use Rattle.cutting.proofs.Keeping.{kept-same, kept-most, links-short, links-fit, thins-refused, thins-accepted}
 use borrow.Author.Needs.{needs}
 use Rattle.cutting.proofs.thin.thin_table.Statement.{statement}

@@ -3,9 +3,9 @@ use Prim.Native.Nat.{_/_}
 use mathlib.Core.Path.{sym, _∙_}
 use native.Mathlib.Omega.{arith}
 use lib.ListN.{length}
-use Rattle.weighing.specs.Links.{linksOf}
-use Rattle.weighing.proofs.LinksBytes.{length-linksOf, linksOf-short}
-use Rattle.weighing.proofs.LinksRows.{table-counted, table-proper, links-proper}
+use Rattle.pairs.specs.Links.{linksOf}
+use Rattle.pairs.proofs.LinksBytes.{length-linksOf, linksOf-short}
+use Rattle.pairs.proofs.LinksRows.{table-counted, table-proper, links-proper}
 use Rattle.cutting.proofs.Carried.{filled-alike}
 use Rattle.cutting.proofs.Keeping.{thinning-core, thinning-stop, thins-alike, thins-refused}
 use borrow.Author.Needs.{needs}

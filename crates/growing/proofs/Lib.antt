@@ -1,0 +1,11 @@
+-- The laws of blocks and of growing.
+pub mod Attach
+pub mod Adjacency
+pub mod Merging
+pub mod Growing
+pub mod Seen
+pub mod GrowRows
+pub mod GrowState
+pub mod GrowEnds
+pub mod WaysListed
+pub mod ProbeWeighs

@@ -1,0 +1,4 @@
+-- What the promises of growing cite.
+pub mod Blocks
+pub mod Grow
+pub mod Listing
