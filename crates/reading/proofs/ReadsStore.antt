@@ -18,12 +18,12 @@ use Rattle.heaps.specs.Record.{entrySize}
 use Rattle.reading.specs.Frame.{payloads, wellFormed}
 use Rattle.reading.specs.Lines.{Line, linesOf, kind}
 use Rattle.reading.specs.Reader.{linkIn, entryIn, linksIn, entriesIn}
-use Rattle.reading.specs.Walk.{byteAt, digitsAt, sizeAt, Well}
+use Rattle.reading.specs.Walk.{byteAt, sizeAt, Well}
 use Rattle.reading.specs.Judging.{allWell}
 use Rattle.reading.specs.Storing.{skipTo, Skipped, payloadAt, linkAt}
 use Rattle.reading.proofs.Frames.{chosen}
 use Rattle.reading.proofs.Lines.{front, front-lines, front-kind, wellFirst, well-first}
-use Rattle.reading.proofs.Walks.{size-of, well-digits, well-room, size-least, size-most}
+use Rattle.reading.proofs.Walks.{size-of, well-room, size-most}
 use Rattle.reading.proofs.Judging.{rest, rest-at, lines-some}
 use Rattle.reading.proofs.ReadsText.{links-front, links-skip, link-front, entries-front, entries-skip, entry-length, entry-at}
 
@@ -90,10 +90,6 @@ module _ (text : List ℕ) (from k at : ℕ) (o : Onward text from k at) where
 
   pub onward-end : length text ≤ at → Skipped text from k at
   onward-end h = record { within = o .within; lines = skip-end text at k h ∙ o .lines; well = o .well }
-
--- a frame's first pair is its kind
-pub kind-digits : (cs : List ℕ) → Well cs → T (digitsAt cs 0)
-kind-digits cs w = well-digits cs w 0 (omega (arith, size-least cs))
 
 -- the first bytes of a payload: how many, and which
 pub payload-length : (cs : List ℕ) (i : ℕ) → length (payloadAt cs i) ≡ i

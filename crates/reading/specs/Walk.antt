@@ -12,6 +12,10 @@ use Rattle.reading.specs.Frame.{payloads, isKind, byteSum, valueOf, isHe
 unfoldable pub pairOf : ℕ → ℕ → ℕ
 pairOf c d = cond (ltb (valueOf c) 16 && ltb (valueOf d) 16) (valueOf c * 16 + valueOf d) 256
 
+-- the kind that they mean, nought where there is no such kind
+unfoldable pub kindOf : ℕ → ℕ → ℕ
+kindOf c d = cond (isKind (pairOf c d)) (pairOf c d) 0
+
 -- the byte that the i-th pair of characters means
 unfoldable pub byteAt : List ℕ → ℕ → ℕ
 byteAt cs i = valueOf (getD cs (2 * i) 0) * 16 + valueOf (getD cs (2 * i + 1) 0)

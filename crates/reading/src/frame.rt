@@ -5,7 +5,7 @@ ghost use Prim.Native.Nat.{_+_, _*_, _≤_};
 ghost use lib.Dec.{T, ltb};
 ghost use lib.ListN.{getD, length, drop};
 ghost use Rattle.reading.specs.Frame.{payloads, valueOf};
-ghost use Rattle.reading.specs.Walk.{pairOf, byteAt, digitsAt, Found, SizeFound, Summed};
+ghost use Rattle.reading.specs.Walk.{pairOf, kindOf, byteAt, digitsAt, Well, Found, SizeFound, Summed};
 
 // The frame at a place of a text: how many bytes it has, its kind and the sum of its bytes. No well formed line there: the size is nought.
 pub(crate) struct Frame {
@@ -17,10 +17,14 @@ pub(crate) struct Frame {
 // The payload's length by kind; there is no kind 00.
 const PAYLOADS: [u8; 8] = [0, 3, 4, 21, 2, 16, 2, 3];
 
-// The length of a kind's payload, nought where there is no such kind.
+// The length of a kind's payload, nought where there is no such kind. Most frames are links: where the next line starts is then known without
+// waiting for the table.
 pub(crate) fn payload(kind: usize) -> usize
     ensures { λ r. ⌜ r ≡ getD payloads kind 0 ⌝ }
 {
+    if kind == 2 {
+        return wide(PAYLOADS[2]);
+    }
     if kind < 8 { wide(PAYLOADS[kind]) } else { 0 }
 }
 
@@ -53,6 +57,17 @@ pub(crate) fn pair(high: u8, low: u8) -> usize
     256
 }
 
+// The kind that the first two characters of a line mean, nought where there is no such kind. Every kind has a 0 in front.
+fn kind_of(high: u8, low: u8) -> usize
+    ensures { λ r. ⌜ r ≡ kindOf high low ⌝ }
+{
+    let kind = std::num::wrapping_sub_u8(low, 48);
+    if high != 48 {
+        return 0;
+    }
+    if kind < 8 { wide(kind) } else { 0 }
+}
+
 fn wide(x: u8) -> usize
     ensures { λ r. ⌜ r ≡ x ⌝ }
 {
@@ -70,11 +85,8 @@ fn size_at(text: &[u8], at: usize) -> usize
     if end - at <= 2 {
         return 0;
     }
-    let kind = pair(text[at], text[at + 1]);
+    let kind = kind_of(text[at], text[at + 1]);
     if kind == 0 {
-        return 0;
-    }
-    if 8 <= kind {
         return 0;
     }
     let size = payload(kind) + 2;
@@ -87,22 +99,41 @@ fn size_at(text: &[u8], at: usize) -> usize
     size
 }
 
-// The sum of the bytes at a place, added as bytes with the carry thrown away; 256 where they are not all written in digits.
-fn sum_at(text: &[u8], at: usize, size: usize) -> usize
+// The kind of the frame at a place.
+pub(crate) fn kind_at(text: &[u8], at: usize) -> usize
+    requires { ⌜ Well (drop at (now text)) ⌝ }
+    ensures { λ r. ⌜ r ≡ byteAt (drop at (now (text .entry))) 0 ⌝ }
+{
+    kind_of(text[at], text[at + 1])
+}
+
+// The sum of the bytes at a place, added as bytes with the carry thrown away; 256 where they are not all written in digits. Every byte is looked at,
+// since a loop that does not stop early is quicker.
+fn add_bytes(text: &[u8], at: usize, size: usize) -> usize
     requires { ⌜ at + 2 * size ≤ length (now text) ⌝ }
     ensures { λ r. ⌜ Summed (drop at (now (text .entry))) size r ⌝ }
 {
     let mut sum: u8 = 0;
+    let mut bad = 0;
     let mut i = 0;
     while i < size {
         let byte = pair(text[at + 2 * i], text[at + 2 * i + 1]);
-        if 256 <= byte {
-            return 256;
-        }
-        sum = std::num::wrapping_add_u8(sum, byte as u8);
+        bad += byte / 256;
+        sum = std::num::wrapping_add_u8(sum, (byte % 256) as u8);
         i += 1;
     }
-    wide(sum)
+    if bad == 0 { wide(sum) } else { 256 }
+}
+
+// The same. Most frames are links, and a loop over so many bytes as are known beforehand is quicker.
+fn sum_at(text: &[u8], at: usize, size: usize) -> usize
+    requires { ⌜ at + 2 * size ≤ length (now text) ⌝ }
+    ensures { λ r. ⌜ Summed (drop at (now (text .entry))) size r ⌝ }
+{
+    if size == 6 {
+        return add_bytes(text, at, 6);
+    }
+    add_bytes(text, at, size)
 }
 
 // The frame at a place of a text.
@@ -125,7 +156,7 @@ pub(crate) fn frame_at(text: &[u8], at: usize) -> Frame
             sum: 0,
         };
     }
-    let kind = pair(text[at], text[at + 1]);
+    let kind = kind_at(text, at);
     Frame {
         size: size,
         kind: kind,

@@ -13,6 +13,7 @@ ghost use Rattle.reading.specs.Judging.{allWell};
 ghost use Rattle.reading.specs.Storing.{Skipped, payloadAt, linkAt, LinkAhead, LinkPast, linksOf, cutsHeld, Storable};
 use crate::Reading;
 use crate::frame::byte_at;
+use crate::frame::kind_at;
 use crate::frame::number_at;
 use crate::frame::payload;
 use cutting::record::Record;
@@ -23,17 +24,17 @@ fn line_after(text: &[u8], at: usize) -> usize
     requires { ⌜ Well (drop at (now text)) ⌝ }
     ensures { λ r. ⌜ r ≡ at + 2 * sizeAt (drop at (now (text .entry))) + 1 ⌝ }
 {
-    at + 2 * (payload(byte_at(text, at, 0) as usize) + 2) + 1
+    at + 2 * (payload(kind_at(text, at)) + 2) + 1
 }
 
 // The place of the next frame of that kind, or the end of the text.
-fn find_kind(text: &[u8], from: usize, kind: u8) -> usize
+fn find_kind(text: &[u8], from: usize, kind: usize) -> usize
     requires { ⌜ (from ≤ length (now text)) × T (allWell (linesOf (drop from (now text)))) ⌝ }
     ensures { λ r. ⌜ Skipped (now (text .entry)) from kind r ⌝ }
 {
     let mut at = from;
     while at < text.len() {
-        if byte_at(text, at, 0) == kind {
+        if kind_at(text, at) == kind {
             return at;
         }
         at = line_after(text, at);

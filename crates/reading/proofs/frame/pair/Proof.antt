@@ -9,39 +9,39 @@ use Rattle.reading.proofs.frame.pair.Lts as lts
 use Rattle.reading.proofs.frame.value.Reads as value-reads
 use Rattle.reading.proofs.frame.wide.Reads as wide-reads
 
--- src/frame.rt:43:9
+-- src/frame.rt:47:9
 value-requires : tie.Need-value-requires
 value-requires c κs = search needs
 
--- src/frame.rt:44:9
+-- src/frame.rt:48:9
 value-requires-2 : tie.Need-value-requires-2
 value-requires-2 c κs = search needs
 
--- src/frame.rt:47:20
+-- src/frame.rt:51:20
 wide-requires : tie.Need-wide-requires
 wide-requires c κs = search needs
 
--- src/frame.rt:47:20
+-- src/frame.rt:51:20
 mul-result : tie.Need-mul-result
 mul-result c = search needs
 
--- src/frame.rt:47:35
+-- src/frame.rt:51:35
 wide-requires-2 : tie.Need-wide-requires-2
 wide-requires-2 c κs = search needs
 
--- src/frame.rt:47:20
+-- src/frame.rt:51:20
 add-result : tie.Need-add-result
 add-result c = search needs
 
--- src/frame.rt:47:13
+-- src/frame.rt:51:13
 returns : tie.Need-returns
 returns c = let a = c .before .before .before .before .before .before .args in omega (arith, pair-digits (a .high) (a .low) (omega arith) (omega arith))
 
--- src/frame.rt:40:1
+-- src/frame.rt:44:1
 returns-2 : tie.Need-returns-2
 returns-2 c = sym (pair-none _ _ (λ x y. omega arith))
 
--- src/frame.rt:40:1
+-- src/frame.rt:44:1
 returns-3 : tie.Need-returns-3
 returns-3 c = sym (pair-none _ _ (λ x y. omega arith))
 

@@ -6,106 +6,99 @@ use Rattle.reading.proofs.frame.size_at.Statement.{statement}
 use Rattle.reading.proofs.frame.size_at.Tie as tie
 use Rattle.reading.proofs.frame.size_at.Reads as reads
 use Rattle.reading.proofs.frame.size_at.Lts as lts
-use Rattle.reading.proofs.frame.pair.Reads as pair-reads
+use Rattle.reading.proofs.frame.kind_of.Reads as kind-of-reads
 use Rattle.reading.proofs.frame.payload.Reads as payload-reads
 
--- src/frame.rt:72:9
+-- src/frame.rt:83:9
 returns : tie.Need-returns
 returns c =
     let a = c .before .before .args in
     no-size (drop (a .at) (a .text .now)) (λ w. omega (arith, w .room, length-drop (a .at) (a .text .now)))
 
--- src/frame.rt:74:8
+-- src/frame.rt:85:8
 sub-if2 : tie.Need-sub-if2
 sub-if2 c = search needs
 
--- src/frame.rt:75:9
+-- src/frame.rt:86:9
 returns-2 : tie.Need-returns-2
 returns-2 c =
     let a = c .before .before .before .args in
     let cs = drop (a .at) (a .text .now) in
     no-size cs (λ w. omega (arith, w .room, size-least cs, length-drop (a .at) (a .text .now)))
 
--- src/frame.rt:77:21
-shared-slice-read-pair : tie.Need-shared-slice-read-pair
-shared-slice-read-pair c = search needs
+-- src/frame.rt:88:21
+shared-slice-read-kind-of : tie.Need-shared-slice-read-kind-of
+shared-slice-read-kind-of c = search needs
 
--- src/frame.rt:77:36
-add-pair : tie.Need-add-pair
-add-pair c = search needs
+-- src/frame.rt:88:36
+add-kind-of : tie.Need-add-kind-of
+add-kind-of c = search needs
 
--- src/frame.rt:77:31
-shared-slice-read-pair-2 : tie.Need-shared-slice-read-pair-2
-shared-slice-read-pair-2 c = search needs
+-- src/frame.rt:88:31
+shared-slice-read-kind-of-2 : tie.Need-shared-slice-read-kind-of-2
+shared-slice-read-kind-of-2 c = search needs
 
--- src/frame.rt:77:9
-pair-requires : tie.Need-pair-requires
-pair-requires c κs = search needs
+-- src/frame.rt:88:16
+kind-of-requires : tie.Need-kind-of-requires
+kind-of-requires c κs = search needs
 
--- src/frame.rt:79:9
+-- src/frame.rt:90:9
 returns-3 : tie.Need-returns-3
 returns-3 c =
     let a = c .before .before .before .before .before .before .before .args in
-    let pair = c .before .pair in
-    no-size (drop (a .at) (a .text .now)) (λ w. omega (arith, kind-well (a .text .now) (a .at) (pair .result) (pair .ensures) w))
+    let k = c .before .kind-of in
+    no-size (drop (a .at) (a .text .now)) (λ w. omega (arith, kind-well (a .text .now) (a .at) (k .result) (k .ensures) w))
 
--- src/frame.rt:82:9
-returns-4 : tie.Need-returns-4
-returns-4 c =
-    let a = c .before .before .before .before .before .before .before .before .args in
-    let pair = c .before .before .pair in
-    no-size (drop (a .at) (a .text .now)) (λ w. omega (arith, kind-well (a .text .now) (a .at) (pair .result) (pair .ensures) w))
-
--- src/frame.rt:84:16
+-- src/frame.rt:92:16
 payload-requires : tie.Need-payload-requires
 payload-requires c κs = search needs
 
--- src/frame.rt:84:16
+-- src/frame.rt:92:16
 add-size : tie.Need-add-size
-add-size c = omega (arith, payload-most (c .before .before .before .pair .result))
+add-size c = omega (arith, payload-most (c .before .before .kind-of .result))
 
--- src/frame.rt:85:8
-sub-if5 : tie.Need-sub-if5
-sub-if5 c = search needs
+-- src/frame.rt:93:8
+sub-if4 : tie.Need-sub-if4
+sub-if4 c = search needs
 
--- src/frame.rt:85:20
+-- src/frame.rt:93:20
+mul-if4 : tie.Need-mul-if4
+mul-if4 c = omega (arith, payload-most (c .before .before .kind-of .result))
+
+-- src/frame.rt:94:9
+returns-4 : tie.Need-returns-4
+returns-4 c =
+    let a = c .before .before .before .before .before .before .before .before .before .args in
+    let k = c .before .before .before .kind-of in
+    no-size (drop (a .at) (a .text .now))
+    (λ w. omega (arith, kind-well (a .text .now) (a .at) (k .result) (k .ensures) w, w .room, length-drop (a .at) (a .text .now)))
+
+-- src/frame.rt:96:18
 mul-if5 : tie.Need-mul-if5
-mul-if5 c = omega (arith, payload-most (c .before .before .before .pair .result))
+mul-if5 c = search needs
 
--- src/frame.rt:86:9
+-- src/frame.rt:96:13
+add-if5 : tie.Need-add-if5
+add-if5 c = search needs
+
+-- src/frame.rt:96:8
+shared-slice-read-if5 : tie.Need-shared-slice-read-if5
+shared-slice-read-if5 c = search needs
+
+-- src/frame.rt:97:9
 returns-5 : tie.Need-returns-5
 returns-5 c =
-    let a = c .before .before .before .before .before .before .before .before .before .before .args in
-    let pair = c .before .before .before .before .pair in
+    let a = c .before .before .before .before .before .before .before .before .before .before .before .args in
+    let k = c .before .before .before .before .before .kind-of in
     no-size (drop (a .at) (a .text .now))
-    (λ w. omega (arith, kind-well (a .text .now) (a .at) (pair .result) (pair .ensures) w, w .room, length-drop (a .at) (a .text .now)))
+    (λ w. c .if5 .taken (feed-well (a .text .now) (a .at) _ w (omega (arith, kind-well (a .text .now) (a .at) (k .result) (k .ensures) w))))
 
--- src/frame.rt:88:18
-mul-if6 : tie.Need-mul-if6
-mul-if6 c = search needs
-
--- src/frame.rt:88:13
-add-if6 : tie.Need-add-if6
-add-if6 c = search needs
-
--- src/frame.rt:88:8
-shared-slice-read-if6 : tie.Need-shared-slice-read-if6
-shared-slice-read-if6 c = search needs
-
--- src/frame.rt:89:9
+-- src/frame.rt:78:1
 returns-6 : tie.Need-returns-6
 returns-6 c =
-    let a = c .before .before .before .before .before .before .before .before .before .before .before .before .args in
-    let pair = c .before .before .before .before .before .before .pair in
-    no-size (drop (a .at) (a .text .now))
-    (λ w. c .if6 .taken (feed-well (a .text .now) (a .at) _ w (omega (arith, kind-well (a .text .now) (a .at) (pair .result) (pair .ensures) w))))
-
--- src/frame.rt:67:1
-returns-7 : tie.Need-returns-7
-returns-7 c =
-    let a = c .before .before .before .before .before .before .before .before .before .before .before .before .args in
-    let pair = c .before .before .before .before .before .before .pair in
-    size-found (a .text .now) (a .at) (pair .result) (pair .ensures) (omega arith) (omega arith) _ (omega arith) (omega arith) (c .if6 .left)
+    let a = c .before .before .before .before .before .before .before .before .before .before .before .args in
+    let k = c .before .before .before .before .before .kind-of in
+    size-found (a .text .now) (a .at) (k .result) (k .ensures) (omega arith) _ (omega arith) (omega arith) (c .if5 .left)
 
 pub size-at-spec : {M : Type 1} → statement M
 size-at-spec =
@@ -114,19 +107,18 @@ size-at-spec =
     returns
     sub-if2
     returns-2
-    shared-slice-read-pair
-    add-pair
-    shared-slice-read-pair-2
-    pair-requires
+    shared-slice-read-kind-of
+    add-kind-of
+    shared-slice-read-kind-of-2
+    kind-of-requires
     returns-3
-    returns-4
     payload-requires
     add-size
-    sub-if5
+    sub-if4
+    mul-if4
+    returns-4
     mul-if5
+    add-if5
+    shared-slice-read-if5
     returns-5
-    mul-if6
-    add-if6
-    shared-slice-read-if6
-    returns-6
-    returns-7)
+    returns-6)

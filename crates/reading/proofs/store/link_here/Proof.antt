@@ -8,21 +8,21 @@ use Rattle.reading.proofs.store.link_here.Lts as lts
 use Rattle.reading.proofs.frame.byte_at.Reads as byte-at-reads
 use Rattle.reading.proofs.frame.number_at.Reads as number-at-reads
 
--- src/store.rt:47:12
+-- src/store.rt:48:12
 byte-at-requires : tie.Need-byte-at-requires
 byte-at-requires c κs =
     let s = c .before in
     let a = s .args in
     within (a .text .now) (a .at) 2 (s .pre .0) (s .pre .1) 1 (omega arith)
 
--- src/store.rt:48:12
+-- src/store.rt:49:12
 byte-at-requires-2 : tie.Need-byte-at-requires-2
 byte-at-requires-2 c κs =
     let s = c .before .before in
     let a = s .args in
     within (a .text .now) (a .at) 2 (s .pre .0) (s .pre .1) 2 (omega arith)
 
--- src/store.rt:49:16
+-- src/store.rt:50:16
 number-at-requires : tie.Need-number-at-requires
 number-at-requires c κs =
     let s = c .before .before .before in
@@ -31,7 +31,7 @@ number-at-requires c κs =
     let low = within (a .text .now) (a .at) 2 (s .pre .0) (s .pre .1) 4 (omega arith) in
     (omega (arith, low .0), high .1, low .1)
 
--- src/store.rt:42:1
+-- src/store.rt:43:1
 returns : tie.Need-returns
 unfolding linkAt
 returns c =

@@ -8,11 +8,11 @@ use Rattle.reading.proofs.store.link_line.Lts as lts
 use Rattle.reading.proofs.store.find_kind.Reads as find-kind-reads
 use Rattle.reading.proofs.store.link_here.Reads as link-here-reads
 
--- src/store.rt:59:21
+-- src/store.rt:60:21
 find-kind-requires : tie.Need-find-kind-requires
 find-kind-requires c κs = search needs
 
--- src/store.rt:59:5
+-- src/store.rt:60:5
 link-here-requires : tie.Need-link-here-requires
 link-here-requires c κs =
     let s = c .before .before in
@@ -21,7 +21,7 @@ link-here-requires c κs =
     let p = c .find-kind in
     (link-well text at (p .result) (p .ensures) (s .pre .some), link-kind text at (p .result) (p .ensures) (s .pre .some))
 
--- src/store.rt:55:1
+-- src/store.rt:56:1
 returns : tie.Need-returns
 returns c =
     let s = c .before .before .before in

@@ -8,11 +8,11 @@ use Rattle.reading.proofs.store.link_past.Lts as lts
 use Rattle.reading.proofs.store.find_kind.Reads as find-kind-reads
 use Rattle.reading.proofs.store.line_after.Reads as line-after-reads
 
--- src/store.rt:67:22
+-- src/store.rt:68:22
 find-kind-requires : tie.Need-find-kind-requires
 find-kind-requires c κs = search needs
 
--- src/store.rt:67:5
+-- src/store.rt:68:5
 line-after-requires : tie.Need-line-after-requires
 line-after-requires c κs =
     let s = c .before .before in
@@ -21,7 +21,7 @@ line-after-requires c κs =
     let p = c .find-kind in
     link-well text at (p .result) (p .ensures) (s .pre .some)
 
--- src/store.rt:63:1
+-- src/store.rt:64:1
 returns : tie.Need-returns
 returns c =
     let s = c .before .before .before in

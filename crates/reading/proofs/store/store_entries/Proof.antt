@@ -17,17 +17,17 @@ Inv-loop text space₀ cuts at₀ i₀ space at i = CutsSoFar text space₀ spac
 abbrev μ-loop : tie.MeasureT-loop
 μ-loop text space₀ cuts at₀ i₀ space at i = cuts - i
 
--- src/store.rt:71:5
+-- src/store.rt:72:5
 loop-holds : tie.Need-loop-holds Inv-loop μ-loop
 loop-holds c =
     let b = c .before .before in
     record { some = cuts-start (b .args .text .now) (b .args .space .now) (b .args .cuts) (b .pre); none = λ e. refl }
 
--- src/store.rt:72:13
+-- src/store.rt:73:13
 find-kind-requires : tie.Need-find-kind-requires Inv-loop μ-loop
 find-kind-requires c κs = let g = c .before .loop .inv .some (omega arith) in (g .within, g .well)
 
--- src/store.rt:73:40
+-- src/store.rt:74:40
 mul-store-entry : tie.Need-mul-store-entry Inv-loop μ-loop
 mul-store-entry c =
     let l = c .before .before .before in
@@ -37,7 +37,7 @@ mul-store-entry c =
     let g = l .loop .inv .some (omega arith) in
     omega (arith, cuts-room text (a .space .now) (l .loop .space) (a .cuts) at (l .loop .i) g (omega arith), g .putting .same-size, l .before .before .before .good)
 
--- src/store.rt:73:9
+-- src/store.rt:74:9
 store-entry-requires : tie.Need-store-entry-requires Inv-loop μ-loop
 store-entry-requires c κs =
     let l = c .before .before .before in
@@ -52,7 +52,7 @@ store-entry-requires c κs =
       cuts-room text (a .space .now) (l .loop .space) (a .cuts) at (l .loop .i) g (omega arith),
     )
 
--- src/store.rt:74:9
+-- src/store.rt:75:9
 line-after-requires : tie.Need-line-after-requires Inv-loop μ-loop
 line-after-requires c κs =
     let l = c .before .before .before .before .before .before in
@@ -63,15 +63,15 @@ line-after-requires c κs =
     let here = c .before .before .before .before .find-kind in
     cut-well text at (here .result) (here .ensures) (cuts-left text (a .space .now) (l .loop .space) (a .cuts) at (l .loop .i) g (omega arith))
 
--- src/store.rt:75:9
+-- src/store.rt:76:9
 add-i : tie.Need-add-i Inv-loop μ-loop
 add-i c = omega arith
 
--- src/store.rt:71:5
+-- src/store.rt:72:5
 loop-less : tie.Need-loop-less Inv-loop μ-loop
 loop-less c = omega arith
 
--- src/store.rt:71:5
+-- src/store.rt:72:5
 loop-again : tie.Need-loop-again Inv-loop μ-loop
 loop-again c =
     let l = c .before .before .before .before .before .before .before in

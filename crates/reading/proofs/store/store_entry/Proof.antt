@@ -19,15 +19,15 @@ Inv-loop text at space₀ to i₀ space i = (i ≤ entrySize) × (space ≡ stor
 abbrev μ-loop : tie.MeasureT-loop
 μ-loop text at space₀ to i₀ space i = entrySize - i
 
--- src/store.rt:59:5
+-- src/store.rt:60:5
 loop-holds : tie.Need-loop-holds Inv-loop μ-loop
 loop-holds c = let a = c .before .before .args in (omega arith, stored-none (drop (a .at) (a .text .now)) (a .space .now) (a .to))
 
--- src/store.rt:60:43
+-- src/store.rt:61:43
 add-byte-at : tie.Need-add-byte-at Inv-loop μ-loop
 add-byte-at c = omega arith
 
--- src/store.rt:60:25
+-- src/store.rt:61:25
 byte-at-requires : tie.Need-byte-at-requires Inv-loop μ-loop
 byte-at-requires c κs =
     let l = c .before in
@@ -36,7 +36,7 @@ byte-at-requires c κs =
     let cs = drop (a .at) (a .text .now) in
     within (a .text .now) (a .at) 3 (s .pre .0) (s .pre .1) (l .loop .i + 1) (omega arith)
 
--- src/store.rt:60:15
+-- src/store.rt:61:15
 add-space : tie.Need-add-space Inv-loop μ-loop
 add-space c =
     let l = c .before .before in
@@ -45,7 +45,7 @@ add-space c =
     let cs = drop (a .at) (a .text .now) in
     omega (arith, s .pre .2)
 
--- src/store.rt:60:9
+-- src/store.rt:61:9
 slice-write-space : tie.Need-slice-write-space Inv-loop μ-loop
 slice-write-space c =
     let l = c .before .before in
@@ -54,15 +54,15 @@ slice-write-space c =
     let cs = drop (a .at) (a .text .now) in
     omega (arith, s .pre .2, ap length (l .loop .inv .1), stored-length cs (a .space .now) (a .to) (l .loop .i) (omega (arith, s .pre .2)))
 
--- src/store.rt:61:9
+-- src/store.rt:62:9
 add-i : tie.Need-add-i Inv-loop μ-loop
 add-i c = omega arith
 
--- src/store.rt:59:5
+-- src/store.rt:60:5
 loop-less : tie.Need-loop-less Inv-loop μ-loop
 loop-less c = omega arith
 
--- src/store.rt:59:5
+-- src/store.rt:60:5
 loop-again : tie.Need-loop-again Inv-loop μ-loop
 loop-again c =
     let l = c .before .before in
@@ -74,7 +74,7 @@ loop-again c =
           ∙ stored-more cs (a .space .now) (a .to) (l .loop .i) (c .byte-at .result) (omega (arith, s .pre .2)) (c .byte-at .ensures),
     )
 
--- src/store.rt:54:1
+-- src/store.rt:55:1
 same-length : tie.Need-same-length Inv-loop μ-loop
 same-length c =
     let l = c .before in
@@ -83,7 +83,7 @@ same-length c =
     let cs = drop (a .at) (a .text .now) in
     ap length (l .loop .inv .1) ∙ stored-length cs (a .space .now) (a .to) (l .loop .i) (omega (arith, s .pre .2))
 
--- src/store.rt:54:1
+-- src/store.rt:55:1
 returns : tie.Need-returns Inv-loop μ-loop
 returns c =
     let l = c .before in
