@@ -3,6 +3,7 @@ pub mod Writes
 pub mod WritesLines
 pub mod WritesTexts
 pub mod WritesRows
+pub mod WritesResult
 pub mod WritesLinks
 pub mod WritesRecord
 pub mod WritesLent

@@ -2,7 +2,7 @@
 pub mod input;
 mod kinds;
 pub mod refusal;
-mod result;
+pub mod result;
 mod write;
 
 // What a writer answers: a refusal of the table with its place, or the number of bytes written.
