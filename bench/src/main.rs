@@ -1,4 +1,5 @@
-//! Times the grouping of the library beside a plain implementation, on lists of many families. See bench/README.md.
+//! Times the grouping of the library beside a plain implementation, on lists of many families, and the longest text read and written.
+//! See bench/README.md.
 
 mod climb;
 mod families;
@@ -6,10 +7,12 @@ mod library;
 mod list;
 mod measure;
 mod plain;
+mod plain_texts;
 mod program;
 mod report;
 mod rng;
 mod stack;
+mod texts;
 
 use climb::Aim;
 use families::FAMILIES;
@@ -140,6 +143,7 @@ fn run() -> Result<(), String> {
     report::print_growth(&rows);
     report::print_summary(&rows);
     print_stack(&rows);
+    texts::print(options.seed)?;
     if let Some(program) = &options.program {
         program::print(program).map_err(|error| format!("{}: {error}", program.display()))?;
     }

@@ -101,7 +101,7 @@ fn fill(list: &List) {
     black_box(&table);
 }
 
-fn best(care: Care, mut call: impl FnMut()) -> f64 {
+pub fn best(care: Care, mut call: impl FnMut()) -> f64 {
     let calls = calls_in(care.batch, &mut call);
     (0..care.batches).map(|_| batch(calls, &mut call)).fold(f64::INFINITY, f64::min)
 }

@@ -33,6 +33,13 @@ fn measured(call: impl FnOnce()) -> usize {
 #[inline(always)]
 fn stack_pointer() -> usize {
     let pointer;
-    unsafe { asm!("mov {}, rsp", out(reg) pointer, options(nomem, nostack, preserves_flags)) };
+    #[cfg(target_arch = "x86_64")]
+    unsafe {
+        asm!("mov {}, rsp", out(reg) pointer, options(nomem, nostack, preserves_flags))
+    };
+    #[cfg(target_arch = "aarch64")]
+    unsafe {
+        asm!("mov {}, sp", out(reg) pointer, options(nomem, nostack, preserves_flags))
+    };
     pointer
 }

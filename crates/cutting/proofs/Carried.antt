@@ -14,16 +14,18 @@ use Rattle.meaning.specs.Judge.{refuse, first}
 use Rattle.meaning.specs.Tally.{Tally, pairTally}
 use Rattle.meaning.specs.Firm.{label, groups}
 use Rattle.meaning.specs.Heap.{Heap, start, LawfulRun, left, piles, finished}
-use Rattle.weighing.specs.Links.{tableRows}
-use Rattle.weighing.specs.Table.{held, filled}
-use Rattle.weighing.proofs.LinksBytes.{Short}
-use Rattle.weighing.proofs.LinksRows.{Counted, table-counted, first-accepted, first-refused}
-use Rattle.weighing.proofs.TableHeld.{table-holds}
+use Rattle.pairs.specs.Links.{tableRows}
+use Rattle.pairs.specs.Table.{held, filled}
+use Rattle.pairs.proofs.LinksBytes.{Short}
+use Rattle.pairs.proofs.LinksRows.{Counted, table-counted, first-accepted, first-refused}
+use Rattle.pairs.proofs.TableHeld.{table-holds}
 use Rattle.cutting.specs.declared.Answer.{Answer}
 use Rattle.cutting.specs.declared.Answer.the-variants.{Gave, Refused as Refused·answer}
-use Rattle.cutting.specs.Record.{entrySize, cutsOf}
-use Rattle.cutting.specs.Rows.{labelRow, spaceRow, recordRow, recordRows, checkingRows, groupingRows}
-use Rattle.cutting.specs.Calls.{answered, settled, written, Checked, Continued, Recorded, Grouped}
+use Rattle.heaps.specs.Record.{entrySize, cutsOf}
+use Rattle.heaps.specs.Rows.{recordRow, recordRows}
+use Rattle.cutting.specs.Rows.{labelRow, spaceRow, checkingRows, groupingRows}
+use Rattle.heaps.specs.Names.{settled, written}
+use Rattle.cutting.specs.Calls.{answered, Checked, Continued, Recorded, Grouped}
 use Rattle.cutting.proofs.Alike.{Alike, label-alike, groups-alike, finished-alike, entries-alike, run-alike}
 
 module _ (n : ℕ) (v w : Tally) (alike : Alike n v w) (k : ℕ) where

@@ -15,14 +15,15 @@ use Rattle.meaning.specs.Judge.{first}
 use Rattle.meaning.specs.Tally.{Tally}
 use Rattle.meaning.specs.Firm.{label, groups}
 use Rattle.meaning.specs.Heap.{Heap, start, LawfulRun, left, piles, finished}
-use Rattle.weighing.specs.Side.{heapOf}
-use Rattle.cutting.specs.Record.{entrySize, cutsIn, cutsOf}
-use Rattle.cutting.specs.Rows.{recordRow, recordRows}
+use Rattle.pairs.specs.Side.{heapOf}
+use Rattle.heaps.specs.Record.{entrySize, cutsIn, cutsOf}
+use Rattle.heaps.specs.Rows.{recordRow, recordRows}
 use Rattle.cutting.specs.Finish.{Begun, Ended}
-use Rattle.cutting.specs.Calls.{written, Continued}
-use Rattle.cutting.proofs.Names.{names-same}
-use Rattle.cutting.proofs.Cuts.{length-cuts, cuts-front, cuts-of}
-use Rattle.cutting.proofs.Lawful.{row-accepted, narrow-cuts, entries-lawful}
+use Rattle.heaps.specs.Names.{written}
+use Rattle.cutting.specs.Calls.{Continued}
+use Rattle.heaps.proofs.Names.{written-same}
+use Rattle.heaps.proofs.Cuts.{length-cuts, cuts-front, cuts-of}
+use Rattle.heaps.proofs.Lawful.{row-accepted, narrow-cuts, entries-lawful}
 use Rattle.cutting.proofs.Finish.{cuts-most, run-labels, run-groups, run-cuts}
 
 -- the empty record begins with one pile of all bones
@@ -129,10 +130,8 @@ module _ (n : ℕ) (w : Tally) (k : ℕ) (bytes space : List ℕ) (s : Sound n w
             ∙ ap (λ (m : ℕ). drop m space) more
 
     pub ended-labels : (labels : List ℕ) → written n (heapOf names′) labels ≡ written n (label n w k) labels
-    unfolding written
     ended-labels labels =
-        ap (λ (x : List ℕ). x ++ drop n labels)
-        (names-same n (heapOf names′) (label n w k) (ended-label n w k _ _ names′ space′ cuts′ some-bones e))
+        written-same n (heapOf names′) (label n w k) labels (ended-label n w k _ _ names′ space′ cuts′ some-bones e)
 
     pub ended-groups : piles n (heapOf names′) ≡ groups n w k
     ended-groups = ap (piles n) (e .heap) ∙ run-groups n w k some-bones (cutsIn cuts′ space′) (e .run) done

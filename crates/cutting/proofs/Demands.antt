@@ -4,31 +4,32 @@
 use Prim.Native.Nat.{ℕ, _+_, _*_, _-_, _/_, _%_, _≤_, _<_}
 use mathlib.Core.Path.{_≡_, refl, sym, _∙_, ap, ap₂, subst}
 use mathlib.Core.Logic.{_⊎_, inl, inr}
-use mathlib.Core.Bool.{Bool, true, false}
-use mathlib.Core.List.{List, [], _∷_, _++_}
+use mathlib.Core.Bool.{Bool, true}
+use mathlib.Core.List.{List}
 use native.Mathlib.Omega.{arith}
-use lib.Dec.{T}
 use lib.ListN.{length, take, length-take}
 use Rattle.meaning.specs.declared.Link.{Link}
 use Rattle.meaning.specs.declared.Judged.{Judged}
 use Rattle.meaning.specs.declared.Judged.the-variants.{Accepted, Refused}
 use Rattle.meaning.specs.Judge.{first}
-use Rattle.meaning.specs.Tally.{pairTally}
+use Rattle.meaning.specs.Tally.{Tally, pairTally}
 use Rattle.meaning.specs.Firm.{label, groups}
 use Rattle.meaning.specs.Heap.{start, piles, LawfulRun, left, weights, between, finished}
 use Rattle.meaning.proofs.Tallies.{pairTally-symmetric}
 use Rattle.meaning.proofs.Ends.{weights-between}
-use Rattle.weighing.specs.Links.{tableRows}
-use Rattle.weighing.proofs.LinksRows.{Counted, table-counted}
+use Rattle.pairs.specs.Links.{tableRows}
+use Rattle.pairs.proofs.LinksRows.{Counted, table-counted}
 use Rattle.cutting.specs.declared.Answer.{Answer}
 use Rattle.cutting.specs.declared.Answer.the-variants.{Gave, Refused as Refused·answer}
 use Rattle.cutting.specs.declared.Thinned.{Thinned}
-use Rattle.cutting.specs.Record.{entrySize, cutsIn, cutsOf}
-use Rattle.cutting.specs.Rows.{recordRows, entriesRows, checkingRows, groupingRows}
-use Rattle.cutting.specs.Calls.{settled, written, answered, Checking, Recorded, Continued, Grouping, Thinning}
-use Rattle.cutting.proofs.Names.{names-same}
-use Rattle.cutting.proofs.Cuts.{length-cuts}
-use Rattle.cutting.proofs.Lawful.{Stopped, narrow-cuts, entries-lawful, lawful-entries, entries-stop, record-fits}
+use Rattle.heaps.specs.Record.{entrySize, cutsOf}
+use Rattle.heaps.specs.Rows.{recordRows, entriesRows}
+use Rattle.cutting.specs.Rows.{checkingRows, groupingRows}
+use Rattle.heaps.specs.Names.{settled, written}
+use Rattle.cutting.specs.Calls.{answered, Checking, Recorded, Continued, Grouping, Thins}
+use Rattle.heaps.proofs.Names.{written-same}
+use Rattle.heaps.proofs.Cuts.{length-cuts}
+use Rattle.heaps.proofs.Lawful.{Stopped, narrow-cuts, entries-lawful, lawful-entries, entries-stop, record-fits}
 use Rattle.cutting.proofs.Finish.{cuts-most, run-labels, run-groups, run-cuts}
 use Rattle.cutting.proofs.Carried.{checking-core, grouping-core, label-fits, space-fits}
 use Rattle.cutting.proofs.Continuing.{Sound}
@@ -101,14 +102,14 @@ module _ (n k : ℕ) (good : Bool) (links : List Link) (judged : first (tableRow
     -- handed to checking it is finished, with the same count and labels
     pub own-checked : (labels labels′ : List ℕ) (r : Answer) → n ≤ length labels → Checking n k good links own labels labels′ r
         → (r ≡ Gave (groups n (pairTally links) k) true) × (labels′ ≡ written n (label n (pairTally links) k) labels)
-    unfolding answered settled written own
+    unfolding answered settled own
     own-checked labels labels′ r l g =
         let e = checking-accepted own (length labels) l own-sound in
         let p = run-groups n (pairTally links) k (counted .some-bones) (cutsOf own) (c .lawful) (c .done) in
-        let h = names-same n (left n start (cutsOf own)) (label n (pairTally links) k) (run-labels n (pairTally links) k (counted .some-bones) (cutsOf own) (c .lawful) (c .done)) in (
+        let h = written-same n (left n start (cutsOf own)) (label n (pairTally links) k) labels (run-labels n (pairTally links) k (counted .some-bones) (cutsOf own) (c .lawful) (c .done)) in (
           g .answer ∙ ap (λ (j : Judged). answered j (piles n (left n start (cutsOf own))) (finished n (pairTally links) k (left n start (cutsOf own)))) e
               ∙ ap₂ Gave p (Rattle.meaning.proofs.Tests.is-true (finished n (pairTally links) k (left n start (cutsOf own))) (c .done)),
-          g .names-left ∙ ap (λ (j : Judged). settled j labels (written n (left n start (cutsOf own)) labels)) e ∙ ap (λ (x : List ℕ). x ++ lib.ListN.drop n labels) h,
+          g .names-left ∙ ap (λ (j : Judged). settled j labels (written n (left n start (cutsOf own)) labels)) e ∙ h,
         )
 
     -- grouped again, nothing is added to it
@@ -147,7 +148,7 @@ module _ (n k : ℕ) (good : Bool) (links : List Link) (judged : first (tableRow
             entries-stop n (pairTally links) k (cutsOf bytes) start 0 number place (counted .few-bones) (narrow-cuts (length bytes / entrySize) bytes) e,
           )
 
--- at most one answer and one content of the label space (for thinning, of the link space) meets each promise
+-- at most one answer and one content of the label space, or of the link space, meets each promise
 pub checking-unique : (n k : ℕ) (good : Bool) (links : List Link) (bytes labels a b : List ℕ) (r s : Answer)
     → Checking n k good links bytes labels a r → Checking n k good links bytes labels b s → (r ≡ s) × (a ≡ b)
 checking-unique n k good links bytes labels a b r s g h = (g .answer ∙ sym (h .answer), g .names-left ∙ sym (h .names-left))
@@ -156,6 +157,7 @@ pub grouping-unique : (n k : ℕ) (good : Bool) (links : List Link) (bytes label
     → Grouping n k good links bytes labels a space c r → Grouping n k good links bytes labels b space d s → (r ≡ s) × (a ≡ b)
 grouping-unique n k good links bytes labels a b space c d r s g h = (g .answer ∙ sym (h .answer), g .labels-left ∙ sym (h .labels-left))
 
-pub thinning-unique : (n k : ℕ) (good : Bool) (links : List Link) (space a b : List ℕ) (r s : Thinned)
-    → Thinning n k good links space a r → Thinning n k good links space b s → (r ≡ s) × (a ≡ b)
-thinning-unique n k good links space a b r s g h = (g .answer ∙ sym (h .answer), g .links-left ∙ sym (h .links-left))
+-- for thinning, in whatever form the links are lent
+pub thinning-unique : {A : Type 0} (form : List Link → List A) (rows : List Judged) (n : ℕ) (w : Tally) (k : ℕ) (links : List Link) (space a b : List A) (r s : Thinned)
+    → Thins form rows n w k links space a r → Thins form rows n w k links space b s → (r ≡ s) × (a ≡ b)
+thinning-unique form rows n w k links space a b r s g h = (g .answer ∙ sym (h .answer), g .links-left ∙ sym (h .links-left))

@@ -3,23 +3,25 @@
 use Prim.Native.Nat.{ℕ, _≤_, _<_}
 use mathlib.Core.Path.{_≡_, refl, sym, _∙_, ap, subst}
 use mathlib.Core.Bool.{Bool, true}
-use mathlib.Core.List.{List, [], _∷_, _++_}
+use mathlib.Core.List.{List, _∷_}
 use lib.ListN.{length, replicate}
 use Rattle.meaning.specs.declared.Link.{Link}
 use Rattle.meaning.specs.declared.Judged.{Judged}
 use Rattle.meaning.specs.declared.Judged.the-variants.{Accepted, Refused}
 use Rattle.meaning.specs.Judge.{first}
-use Rattle.weighing.specs.Links.{tableRows}
-use Rattle.weighing.specs.Table.{held, filled}
-use Rattle.weighing.proofs.LinksBytes.{Short}
+use Rattle.pairs.specs.Links.{tableRows}
+use Rattle.pairs.specs.Table.{held, filled}
+use Rattle.pairs.proofs.LinksBytes.{Short}
 use Rattle.cutting.specs.declared.Answer.{Answer}
-use Rattle.cutting.specs.Rows.{labelRow, spaceRow, recordRows}
-use Rattle.cutting.specs.Calls.{answered, settled, written, Checked, Checking, Recorded, Grouped, Grouping}
-use Rattle.cutting.specs.Record.{cutsOf}
+use Rattle.heaps.specs.Rows.{recordRows}
+use Rattle.cutting.specs.Rows.{labelRow, spaceRow}
+use Rattle.heaps.specs.Names.{settled, written}
+use Rattle.cutting.specs.Calls.{answered, Checked, Checking, Recorded, Grouped, Grouping}
+use Rattle.heaps.specs.Record.{cutsOf}
 use Rattle.meaning.specs.Tally.{pairTally}
 use Rattle.meaning.specs.Heap.{start, left, piles, finished}
 use Rattle.meaning.specs.Firm.{label, groups}
-use Rattle.weighing.proofs.LinksRows.{never-both}
+use Rattle.pairs.proofs.LinksRows.{never-both}
 use Rattle.cutting.proofs.Carried.{filled-counted, filled-alike, checked-alike, checking-core, checking-stop, grouped-alike, grouping-core, grouping-stop}
 
 module _ (n k : ℕ) (good : Bool) (links : List Link) (j : Judged) (judged : j ≡ first (tableRows n k good links)) where

@@ -1,12 +1,12 @@
--- Laws of thinning: a link as bytes, one link more or less, and the links kept of the whole run.
+-- Laws of thinning: a link as bytes, one link more or less, the links kept of the whole run, and the promise, whatever the form of the links.
 -- Assumes nothing.
-use Prim.Native.Nat.{ℕ, suc, _+_, _*_, _/_, _%_, _≤_, _<_, zero-le}
-use mathlib.Core.Path.{_≡_, refl, sym, _∙_, ap, ap₂}
-use mathlib.Core.Bool.{Bool, true, false, cond}
+use Prim.Native.Nat.{ℕ, _+_, _*_, _/_, _%_, _≤_, _<_, zero-le}
+use mathlib.Core.Path.{_≡_, refl, sym, _∙_, ap, ap₂, subst}
+use mathlib.Core.Bool.{Bool, true, false, cond, _&&_}
 use mathlib.Core.List.{List, [], _∷_, _++_, append-nil, append-assoc}
 use native.Mathlib.Nat.{le-refl, add-zero}
 use native.Mathlib.Omega.{arith}
-use lib.Dec.{eqb}
+use lib.Dec.{eqb, ltb}
 use lib.ListN.{length, getD, take, drop, length-take, length-drop, take-append-drop}
 use borrow.Author.Tests.{lt-ltb, le-ltb}
 use lib.Seq.{paste, getD-drop, drop-drop, take-take, take-paste, drop-paste, length-paste}
@@ -17,13 +17,18 @@ use Rattle.meaning.specs.Judge.{refuse, first}
 use Rattle.meaning.specs.Tally.{Tally}
 use Rattle.meaning.specs.Firm.{label}
 use Rattle.meaning.specs.Heap.{Heap}
-use Rattle.weighing.specs.Links.{linksOf, linkAt, linkRows, linksRows, tableRows}
-use Rattle.weighing.proofs.LinksBytes.{linksOf-next, linksOf-end}
-use Rattle.weighing.proofs.LinksRows.{Proper, Propers, first-accepted, first-refused, link-accepted, links-here, links-next}
+use Rattle.pairs.specs.Side.{heapOf}
+use Rattle.lent.specs.Records.{sameLabel, keptLinks}
+use Rattle.pairs.specs.Links.{linksOf, linkAt, linkRows, linksRows, tableRows}
+use Rattle.pairs.proofs.LinksBytes.{linksOf-next, linksOf-end}
+use Rattle.lent.proofs.RecordsKept.{same-below, kept-all, kept-most as kept-first}
+use Rattle.pairs.proofs.LinksRows.{Proper, Propers, first-accepted, first-refused, link-accepted, links-here, links-next}
 use Rattle.cutting.specs.declared.Thinned.{Thinned}
 use Rattle.cutting.specs.declared.Thinned.the-variants.{Kept, Refused as Refused·thinned}
 use Rattle.cutting.specs.Rows.{linkRow, thinningRows}
-use Rattle.cutting.specs.Calls.{settled, kept, linkBytes, over, keeping, Thins}
+use Rattle.heaps.specs.Names.{settled, names}
+use Rattle.heaps.proofs.Names.{names-at}
+use Rattle.cutting.specs.Calls.{kept, linkBytes, over, keeping, Thins}
 use Rattle.cutting.specs.Thin.{Keeps}
 use Rattle.cutting.proofs.Alike.{Alike, label-alike}
 
@@ -55,39 +60,52 @@ length-linkBytes (l ∷ ls) = omega (arith, length-linkBytes ls)
 
 -- ---- one link
 
-module _ (h : Heap) (l : Link) (bytes space : List ℕ) (count : ℕ) where
-  pub keeps-not : eqb (h (l .a)) (h (l .b)) ≡ false → Keeps h l bytes space count space count
+module _ (same : Bool) (bytes space : List ℕ) (count : ℕ) where
+  pub keeps-not : same ≡ false → Keeps same bytes space count space count
   keeps-not e =
       record {
         counted = sym (ap (λ (t : Bool). count + cond t 1 0) e ∙ add-zero count);
         put = sym (ap (λ (t : Bool). cond t (paste space (count * 4) bytes 4) space) e);
       }
 
-  pub keeps-it : (space′ : List ℕ) → eqb (h (l .a)) (h (l .b)) ≡ true → space′ ≡ paste space (count * 4) bytes 4 → Keeps h l bytes space count space′ (count + 1)
+  pub keeps-it : (space′ : List ℕ) → same ≡ true → space′ ≡ paste space (count * 4) bytes 4 → Keeps same bytes space count space′ (count + 1)
   keeps-it space′ e p =
       record {
         counted = sym (ap (λ (t : Bool). count + cond t 1 0) e);
         put = p ∙ sym (ap (λ (t : Bool). cond t (paste space (count * 4) bytes 4) space) e);
       }
 
+-- the labels of both ends, where they are bones
+pub same-bones : (labels : List ℕ) (l : Link) → l .a < 128 → l .b < 128 → sameLabel labels l ≡ eqb (heapOf labels (l .a)) (heapOf labels (l .b))
+unfolding heapOf
+same-bones labels l p q = sym (same-below labels l p q)
+
 -- ---- the links kept
 
-pub kept-it : (h : Heap) (l : Link) (ls : List Link) {rest : List Link} → rest ≡ l ∷ ls → eqb (h (l .a)) (h (l .b)) ≡ true → kept h rest ≡ l ∷ kept h ls
-unfolding kept
-kept-it h l ls r e = rw (r, e)
+kept-it : (labels : List ℕ) (l : Link) (ls : List Link) {rest : List Link} → rest ≡ l ∷ ls → sameLabel labels l ≡ true → keptLinks labels rest ≡ l ∷ keptLinks labels ls
+unfolding keptLinks
+kept-it labels l ls r e = rw (r, e)
 
-pub kept-not : (h : Heap) (l : Link) (ls : List Link) {rest : List Link} → rest ≡ l ∷ ls → eqb (h (l .a)) (h (l .b)) ≡ false → kept h rest ≡ kept h ls
-unfolding kept
-kept-not h l ls r e = rw (r, e)
+kept-not : (labels : List ℕ) (l : Link) (ls : List Link) {rest : List Link} → rest ≡ l ∷ ls → sameLabel labels l ≡ false → keptLinks labels rest ≡ keptLinks labels ls
+unfolding keptLinks
+kept-not labels l ls r e = rw (r, e)
 
--- names that agree on the links' ends keep the same links
-pub kept-same : (n : ℕ) (g h : Heap) (ls : List Link) → ((b : ℕ) → b < n → g b ≡ h b) → Propers n ls → kept g ls ≡ kept h ls
-unfolding kept Propers
-kept-same n g h [] e p = refl
-kept-same n g h (l ∷ ls) e p =
+-- labels that agree on the links' ends keep the same links
+same-kept : (n : ℕ) (xs ys : List ℕ) (ls : List Link) → ((b : ℕ) → b < n → getD xs b 0 ≡ getD ys b 0) → Propers n ls → keptLinks xs ls ≡ keptLinks ys ls
+unfolding keptLinks sameLabel Propers
+same-kept n xs ys [] e p = refl
+same-kept n xs ys (l ∷ ls) e p =
     ap₂ (λ (t : Bool) (ks : List Link). cond t (l ∷ ks) ks)
-    (ap₂ eqb (e (l .a) (p .0 .first-end)) (e (l .b) (p .0 .second-end)))
-    (kept-same n g h ls e (p .1))
+    (ap₂ (λ (x y : ℕ). (ltb (l .a) 128 && ltb (l .b) 128) && eqb x y) (e (l .a) (p .0 .first-end)) (e (l .b) (p .0 .second-end)))
+    (same-kept n xs ys ls e (p .1))
+
+-- names that are the labels of the bones below n keep what thinning keeps
+pub kept-same : (n : ℕ) (w : Tally) (k : ℕ) (xs : List ℕ) (ls : List Link) → n ≤ 128 → ((b : ℕ) → b < n → heapOf xs b ≡ label n w k b) → Propers n ls → keptLinks xs ls ≡ kept n w k ls
+unfolding heapOf
+kept-same n w k xs ls few e p = same-kept n xs (names 128 (label n w k)) ls (λ b l. e b l ∙ sym (label-at b (omega arith))) p
+  where
+    label-at : (b : ℕ) → b < 128 → getD (names 128 (label n w k)) b 0 ≡ label n w k b
+    label-at b l = ap (λ (x : List ℕ). getD x b 0) (sym (append-nil (names 128 (label n w k)))) ∙ names-at 128 (label n w k) [] b l
 
 one-link : (l : Link) (ls : List Link) → linkBytes (l ∷ ls) ≡ linkBytes (l ∷ []) ++ linkBytes ls
 unfolding linkBytes
@@ -95,13 +113,13 @@ one-link l ls = refl
 
 -- ---- the whole run
 
-module _ (h : Heap) (links space₀ : List ℕ) where
+module _ (labels links space₀ : List ℕ) where
   -- of the links below i, so many are kept, at the front of the space
   pub record Keeping (space : List ℕ) (count i : ℕ) : Type 0 where
     pub place : i ≤ length links / 4
     pub most : count ≤ i
-    pub bytes : linkBytes (kept h (linksOf links)) ≡ take (count * 4) space ++ linkBytes (kept h (linksOf (drop (i * 4) links)))
-    pub number : length (kept h (linksOf links)) ≡ count + length (kept h (linksOf (drop (i * 4) links)))
+    pub bytes : linkBytes (keptLinks labels (linksOf links)) ≡ take (count * 4) space ++ linkBytes (keptLinks labels (linksOf (drop (i * 4) links)))
+    pub number : length (keptLinks labels (linksOf links)) ≡ count + length (keptLinks labels (linksOf (drop (i * 4) links)))
     pub rest : drop (count * 4) space ≡ drop (count * 4) space₀
     pub long : length space ≡ length space₀
     pub proper : first (linksRows 128 i (linksOf (drop (i * 4) links))) ≡ Accepted
@@ -121,8 +139,8 @@ module _ (h : Heap) (links space₀ : List ℕ) where
     keeping-proper = link-accepted 128 i (linkAt links i) accepted
 
     pub keeping-next : (space′ : List ℕ) (count′ : ℕ) → length links / 4 ≤ length space₀ / 4 → ((j : ℕ) → getD links j 0 < 256)
-        → Keeps h (linkAt links i) (take 4 (drop (i * 4) links)) space count space′ count′ → Keeping space′ count′ (i + 1)
-    keeping-next space′ count′ room small s = go (eqb (h (linkAt links i .a)) (h (linkAt links i .b))) refl
+        → Keeps (sameLabel labels (linkAt links i)) (take 4 (drop (i * 4) links)) space count space′ count′ → Keeping space′ count′ (i + 1)
+    keeping-next space′ count′ room small s = go (sameLabel labels (linkAt links i)) refl
       where
         after : List Link
         after = linksOf (drop ((i + 1) * 4) links)
@@ -152,20 +170,20 @@ module _ (h : Heap) (links space₀ : List ℕ) where
             ∙ ap (drop 4) (k .rest)
             ∙ drop-drop 4 (count * 4) space₀
 
-        go : (t : Bool) → eqb (h (linkAt links i .a)) (h (linkAt links i .b)) ≡ t → Keeping space′ count′ (i + 1)
+        go : (t : Bool) → sameLabel labels (linkAt links i) ≡ t → Keeping space′ count′ (i + 1)
         go true e =
             let counted : count′ ≡ count + 1 = s .counted ∙ ap (λ (t : Bool). count + cond t 1 0) e in
             let put : space′ ≡ paste space (count * 4) four-bytes 4 = s .put ∙ ap (λ (t : Bool). cond t (paste space (count * 4) four-bytes 4) space) e in
             let step : count′ * 4 ≡ count * 4 + 4 = omega (arith, counted) in
-            let more = kept-it h (linkAt links i) after next e in
+            let more = kept-it labels (linkAt links i) after next e in
             record {
               place = omega arith;
               most = omega (arith, counted, k .most);
               bytes = k .bytes
                   ∙ ap (λ (ls : List Link). take (count * 4) space ++ linkBytes ls) more
-                  ∙ ap (λ (x : List ℕ). take (count * 4) space ++ x) (one-link (linkAt links i) (kept h after))
-                  ∙ sym (append-assoc (take (count * 4) space) (linkBytes (linkAt links i ∷ [])) (linkBytes (kept h after)))
-                  ∙ ap (λ (x : List ℕ). x ++ linkBytes (kept h after)) (sym (ap₂ take step put ∙ put-front));
+                  ∙ ap (λ (x : List ℕ). take (count * 4) space ++ x) (one-link (linkAt links i) (keptLinks labels after))
+                  ∙ sym (append-assoc (take (count * 4) space) (linkBytes (linkAt links i ∷ [])) (linkBytes (keptLinks labels after)))
+                  ∙ ap (λ (x : List ℕ). x ++ linkBytes (keptLinks labels after)) (sym (ap₂ take step put ∙ put-front));
               number = omega (arith, k .number, counted, ap length more);
               rest = ap₂ drop step put ∙ put-rest ∙ ap (λ (m : ℕ). drop m space₀) (sym step);
               long = ap length put ∙ length-paste space (count * 4) four-bytes 4 fits wide ∙ k .long;
@@ -174,7 +192,7 @@ module _ (h : Heap) (links space₀ : List ℕ) where
         go false e =
             let counted : count′ ≡ count = s .counted ∙ ap (λ (t : Bool). count + cond t 1 0) e ∙ add-zero count in
             let put : space′ ≡ space = s .put ∙ ap (λ (t : Bool). cond t (paste space (count * 4) four-bytes 4) space) e in
-            let same = kept-not h (linkAt links i) after next e in
+            let same = kept-not labels (linkAt links i) after next e in
             record {
               place = omega arith;
               most = omega (arith, counted, k .most);
@@ -187,27 +205,22 @@ module _ (h : Heap) (links space₀ : List ℕ) where
 
   -- behind the last link
   pub keeping-end : (space : List ℕ) (count i : ℕ) → Keeping space count i → length links / 4 ≤ i
-      → (count ≡ length (kept h (linksOf links))) × (space ≡ over (linkBytes (kept h (linksOf links))) space₀)
-  unfolding kept linkBytes over
+      → (count ≡ length (keptLinks labels (linksOf links))) × (space ≡ over (linkBytes (keptLinks labels (linksOf links))) space₀)
+  unfolding keptLinks linkBytes over
   keeping-end space count i k l =
       let none = linksOf-end links i l in
-      let number : length (kept h (linksOf links)) ≡ count = omega (arith, k .number, ap (λ (ls : List Link). length (kept h ls)) none) in
-      let bytes : linkBytes (kept h (linksOf links)) ≡ take (count * 4) space = k .bytes ∙ ap (λ (ls : List Link). take (count * 4) space ++ linkBytes (kept h ls)) none ∙ append-nil (take (count * 4) space) in
-      let long : length (linkBytes (kept h (linksOf links))) ≡ count * 4 = length-linkBytes (kept h (linksOf links)) ∙ ap (λ (m : ℕ). m * 4) number in (
+      let number : length (keptLinks labels (linksOf links)) ≡ count = omega (arith, k .number, ap (λ (ls : List Link). length (keptLinks labels ls)) none) in
+      let bytes : linkBytes (keptLinks labels (linksOf links)) ≡ take (count * 4) space = k .bytes ∙ ap (λ (ls : List Link). take (count * 4) space ++ linkBytes (keptLinks labels ls)) none ∙ append-nil (take (count * 4) space) in
+      let long : length (linkBytes (keptLinks labels (linksOf links))) ≡ count * 4 = length-linkBytes (keptLinks labels (linksOf links)) ∙ ap (λ (m : ℕ). m * 4) number in (
         sym number,
         sym (take-append-drop (count * 4) space) ∙ ap₂ _++_ (sym bytes) (k .rest ∙ ap (λ (m : ℕ). drop m space₀) (sym long)),
       )
 
 -- ---- thinning's promise
 
-pub kept-most : (h : Heap) (ls : List Link) → length (kept h ls) ≤ length ls
-unfolding kept
-kept-most h [] = le-refl 0
-kept-most h (l ∷ ls) = go (eqb (h (l .a)) (h (l .b))) (kept-most h ls)
-  where
-    go : (t : Bool) → length (kept h ls) ≤ length ls → length (cond t (l ∷ kept h ls) (kept h ls)) ≤ suc (length ls)
-    go true m = omega arith
-    go false m = omega arith
+pub kept-most : (labels : List ℕ) (ls : List Link) → length (keptLinks labels ls) ≤ length ls
+kept-most labels ls =
+    subst (λ (ks : List Link). length ks ≤ length ls) (kept-all labels ls) (kept-first labels ls (length ls) (le-refl (length ls)))
 
 module _ (links room : ℕ) where
   pub links-short : room < links → first (linkRow links room ∷ []) ≡ Refused 14 0
@@ -218,30 +231,33 @@ module _ (links room : ℕ) where
   unfolding linkRow refuse first
   links-fit l = rw (le-ltb room links l)
 
-module _ (rows : List Judged) (n : ℕ) (w : Tally) (k : ℕ) (links : List Link) (space : List ℕ) where
-  pub thins-refused : (number place : ℕ) → first rows ≡ Refused number place → Thins rows n w k links space space (Refused·thinned number place)
+module _ {A : Type 0} (form : List Link → List A) (rows : List Judged) (n : ℕ) (w : Tally) (k : ℕ) (links : List Link) (space : List A) where
+  pub thins-refused : (number place : ℕ) → first rows ≡ Refused number place → Thins form rows n w k links space space (Refused·thinned number place)
   unfolding keeping settled
   thins-refused number place e =
       record {
-        answer = ap (λ (j : Judged). keeping j (length (kept (label n w k) links))) (sym e);
-        links-left = ap (λ (j : Judged). settled j space (over (linkBytes (kept (label n w k) links)) space)) (sym e);
+        answer = ap (λ (j : Judged). keeping j (length (kept n w k links))) (sym e);
+        links-left = ap (λ (j : Judged). settled j space (over (form (kept n w k links)) space)) (sym e);
       }
 
-  pub thins-accepted : (h : Heap) (space′ : List ℕ) (count : ℕ) → first rows ≡ Accepted → kept h links ≡ kept (label n w k) links → count ≡ length (kept h links) → space′ ≡ over (linkBytes (kept h links)) space → Thins rows n w k links space space′ (Kept count)
+  pub thins-accepted : (labels : List ℕ) (space′ : List A) (count : ℕ) → first rows ≡ Accepted → keptLinks labels links ≡ kept n w k links → count ≡ length (keptLinks labels links) → space′ ≡ over (form (keptLinks labels links)) space
+      → Thins form rows n w k links space space′ (Kept count)
   unfolding keeping settled
-  thins-accepted h space′ count e same q p =
+  thins-accepted labels space′ count e same q p =
       record {
-        answer = ap Kept (q ∙ ap length same) ∙ ap (λ (j : Judged). keeping j (length (kept (label n w k) links))) (sym e);
+        answer = ap Kept (q ∙ ap length same) ∙ ap (λ (j : Judged). keeping j (length (kept n w k links))) (sym e);
         links-left = p
-            ∙ ap (λ (ls : List Link). over (linkBytes ls) space) same
-            ∙ ap (λ (j : Judged). settled j space (over (linkBytes (kept (label n w k) links)) space)) (sym e);
+            ∙ ap (λ (ls : List Link). over (form ls) space) same
+            ∙ ap (λ (j : Judged). settled j space (over (form (kept n w k links)) space)) (sym e);
       }
 
-pub thins-alike : (n : ℕ) (v w : Tally) → Alike n v w → (k : ℕ) (rows rows′ : List Judged) (links : List Link) (space space′ : List ℕ) (r : Thinned) → first rows ≡ first rows′ → Thins rows n v k links space space′ r → Thins rows′ n w k links space space′ r
-thins-alike n v w alike k rows rows′ links space space′ r e t =
+pub thins-alike : {A : Type 0} (form : List Link → List A) (n : ℕ) (v w : Tally) → Alike n v w → (k : ℕ) (rows rows′ : List Judged) (links : List Link) (space space′ : List A) (r : Thinned)
+    → first rows ≡ first rows′ → Thins form rows n v k links space space′ r → Thins form rows′ n w k links space space′ r
+thins-alike form n v w alike k rows rows′ links space space′ r e t =
+    let same : kept n v k links ≡ kept n w k links = ap (λ (h : Heap). keptLinks (names 128 h) links) (label-alike n v w alike k) in
     record {
-      answer = t .answer ∙ ap₂ (λ (j : Judged) (h : Heap). keeping j (length (kept h links))) e (label-alike n v w alike k);
-      links-left = t .links-left ∙ ap₂ (λ (j : Judged) (h : Heap). settled j space (over (linkBytes (kept h links)) space)) e (label-alike n v w alike k);
+      answer = t .answer ∙ ap₂ (λ (j : Judged) (ls : List Link). keeping j (length ls)) e same;
+      links-left = t .links-left ∙ ap₂ (λ (j : Judged) (ls : List Link). settled j space (over (form ls) space)) e same;
     }
 
 module _ (n k : ℕ) (good : Bool) (links : List Link) (room : ℕ) where

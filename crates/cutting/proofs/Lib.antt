@@ -1,10 +1,5 @@
 -- The laws of cutting.
-pub mod Entries
-pub mod Cuts
 pub mod Alike
-pub mod Lawful
-pub mod Names
-pub mod Parting
 pub mod Finish
 pub mod Going
 pub mod Carried
@@ -12,3 +7,6 @@ pub mod Judged
 pub mod Continuing
 pub mod Demands
 pub mod Keeping
+pub mod JudgedThin
+pub mod RecordsLabels
+pub mod RecordsThin

@@ -1,9 +1,9 @@
 -- What the calls promise: the answer, and every lent byte afterwards.
-use Prim.Native.Nat.{ℕ, zero, suc, _*_, _-_, _/_, _%_}
+use Prim.Native.Nat.{ℕ, _*_, _-_, _/_, _%_}
 use mathlib.Core.Path.{_≡_}
-use mathlib.Core.Bool.{Bool, true, cond}
+use mathlib.Core.Bool.{Bool, true}
 use mathlib.Core.List.{List, [], _∷_, _++_}
-use lib.Dec.{T, eqb}
+use lib.Dec.{T}
 use lib.ListN.{length, take, drop}
 use Rattle.meaning.specs.declared.Link.{Link}
 use Rattle.meaning.specs.declared.Judged.{Judged}
@@ -11,30 +11,19 @@ use Rattle.meaning.specs.declared.Judged.the-variants.{Accepted, Refused}
 use Rattle.meaning.specs.Judge.{first}
 use Rattle.meaning.specs.Tally.{Tally, pairTally}
 use Rattle.meaning.specs.Firm.{label, groups}
-use Rattle.meaning.specs.Heap.{Heap, start, piles, LawfulRun, left, finished}
+use Rattle.meaning.specs.Heap.{start, piles, LawfulRun, left, finished}
 use Rattle.cutting.specs.declared.Answer.{Answer}
 use Rattle.cutting.specs.declared.Answer.the-variants.{Gave, Refused as Refused·answer}
 use Rattle.cutting.specs.declared.Thinned.{Thinned}
 use Rattle.cutting.specs.declared.Thinned.the-variants.{Kept, Refused as Refused·thinned}
-use Rattle.cutting.specs.Record.{entrySize, cutsOf}
+use Rattle.lent.specs.Records.{keptLinks}
+use Rattle.heaps.specs.Record.{entrySize, cutsOf}
+use Rattle.heaps.specs.Names.{settled, names, written}
 use Rattle.cutting.specs.Rows.{checkingRows, groupingRows, thinningRows}
 
--- what is left in lent room: as it was where refused
-unfoldable pub settled : Judged → List ℕ → List ℕ → List ℕ
-settled Accepted was new = new
-settled (Refused number place) was new = was
-
--- the names of bones 0 to n − 1; written to lent room, the rest stays
-unfoldable pub names : ℕ → Heap → List ℕ
-names zero h = []
-names (suc n) h = names n h ++ h n ∷ []
-
-unfoldable pub written : ℕ → Heap → List ℕ → List ℕ
-written n h room = names n h ++ drop n room
-
--- bytes written to the front of lent room
-unfoldable pub over : List ℕ → List ℕ → List ℕ
-over bytes room = bytes ++ drop (length bytes) room
+-- written to the front of lent room; the rest stays
+unfoldable pub over : {A : Type 0} → List A → List A → List A
+over front room = front ++ drop (length front) room
 
 -- an answer: the refusal, or a number and whether the run is finished
 unfoldable pub answered : Judged → ℕ → Bool → Answer
@@ -71,11 +60,11 @@ abbrev pub Grouping : ℕ → ℕ → Bool → List Link → List ℕ → List �
 Grouping n k good links bytes labels labels′ space space′ r =
     Grouped (groupingRows n k good links bytes (length labels) (length space)) n (pairTally links) k bytes labels labels′ space space′ r
 
--- thinning: the links whose ends share a group, in order, as bytes; the rest stays
-unfoldable pub kept : Heap → List Link → List Link
-kept h [] = []
-kept h (l ∷ ls) = cond (eqb (h (l .a)) (h (l .b))) (l ∷ kept h ls) (kept h ls)
+-- the links whose ends share a group, in order: they carry the same label
+abbrev pub kept : ℕ → Tally → ℕ → List Link → List Link
+kept n w k links = keptLinks (names 128 (label n w k)) links
 
+-- links as bytes, four a link
 unfoldable pub linkBytes : List Link → List ℕ
 linkBytes [] = []
 linkBytes (l ∷ ls) = l .a ∷ l .b ∷ l .tally / 256 ∷ l .tally % 256 ∷ linkBytes ls
@@ -84,10 +73,16 @@ unfoldable pub keeping : Judged → ℕ → Thinned
 keeping Accepted count = Kept count
 keeping (Refused number place) count = Refused·thinned number place
 
-pub record Thins (rows : List Judged) (n : ℕ) (w : Tally) (k : ℕ) (links : List Link) (space space′ : List ℕ) (r : Thinned) : Type 0 where
-  pub answer : r ≡ keeping (first rows) (length (kept (label n w k) links))
-  pub links-left : space′ ≡ settled (first rows) space (over (linkBytes (kept (label n w k) links)) space)
+-- thinning: the links kept, at the front of the room in the form of its elements; the rest stays
+pub record Thins {A : Type 0} (form : List Link → List A) (rows : List Judged) (n : ℕ) (w : Tally) (k : ℕ) (links : List Link) (space space′ : List A) (r : Thinned) : Type 0 where
+  pub answer : r ≡ keeping (first rows) (length (kept n w k links))
+  pub links-left : space′ ≡ settled (first rows) space (over (form (kept n w k links)) space)
 
+-- with links lent as bytes, and as records
 abbrev pub Thinning : ℕ → ℕ → Bool → List Link → List ℕ → List ℕ → Thinned → Type 0
 Thinning n k good links space space′ r =
-    Thins (thinningRows n k good links (length space / 4)) n (pairTally links) k links space space′ r
+    Thins linkBytes (thinningRows n k good links (length space / 4)) n (pairTally links) k links space space′ r
+
+abbrev pub ThinningRecords : ℕ → ℕ → List Link → List Link → List Link → Thinned → Type 0
+ThinningRecords n k links space space′ r =
+    Thins (λ ls. ls) (thinningRows n k true links (length space)) n (pairTally links) k links space space′ r

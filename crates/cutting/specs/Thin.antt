@@ -1,13 +1,18 @@
--- What one link adds to the links that thinning keeps: its four bytes behind theirs, where its ends bear one name; and nothing elsewhere.
+-- What the parts of thinning tell one another: what one link adds to the links kept as bytes, and whether anything is refused.
 use Prim.Native.Nat.{ℕ, _+_, _*_}
 use mathlib.Core.Path.{_≡_}
-use mathlib.Core.Bool.{cond}
+use mathlib.Core.Bool.{Bool, true, false, cond}
 use mathlib.Core.List.{List}
-use lib.Dec.{eqb}
 use lib.Seq.{paste}
-use Rattle.meaning.specs.declared.Link.{Link}
-use Rattle.meaning.specs.Heap.{Heap}
+use Rattle.meaning.specs.declared.Judged.{Judged}
+use Rattle.meaning.specs.declared.Judged.the-variants.{Accepted, Refused}
 
-pub record Keeps (h : Heap) (l : Link) (bytes space : List ℕ) (count : ℕ) (space′ : List ℕ) (count′ : ℕ) : Type 0 where
-  pub counted : count′ ≡ count + cond (eqb (h (l .a)) (h (l .b))) 1 0
-  pub put : space′ ≡ cond (eqb (h (l .a)) (h (l .b))) (paste space (count * 4) bytes 4) space
+-- a link's four bytes go behind the others, where its ends carry the same label; and nothing elsewhere
+pub record Keeps (same : Bool) (bytes space : List ℕ) (count : ℕ) (space′ : List ℕ) (count′ : ℕ) : Type 0 where
+  pub counted : count′ ≡ count + cond same 1 0
+  pub put : space′ ≡ cond same (paste space (count * 4) bytes 4) space
+
+-- whether anything is refused
+unfoldable pub refused : Judged → Bool
+refused Accepted = false
+refused (Refused number place) = true

@@ -4,7 +4,7 @@ use crate::check::checking;
 use crate::group::grouping;
 ghost use mathlib.Core.Path.{_≡_};
 ghost use mathlib.Core.Bool.{cond};
-ghost use Rattle.weighing.specs.Links.{whole, linksOf};
+ghost use Rattle.pairs.specs.Links.{whole, linksOf};
 ghost use Rattle.cutting.specs.Calls.{Checking, Grouping};
 ghost use Rattle.cutting.specs.Told.{told, Telling};
 

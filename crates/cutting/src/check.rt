@@ -1,8 +1,8 @@
 // Checking: a record is judged, and the piles that it leaves are told. The part above the filled table serves every form of links.
 use crate::Answer;
-use crate::heap::count_piles;
-use crate::heap::write_names;
-use crate::judging::judge_record;
+use heaps::count_piles;
+use heaps::judge_record;
+use heaps::write_names;
 use meaning::Judged;
 use weighing::fill;
 use weighing::search::search;
@@ -11,11 +11,13 @@ ghost use mathlib.Core.List.{_∷_};
 ghost use Prim.Native.Nat.{_≤_, _<_};
 ghost use lib.ListN.{length};
 ghost use Rattle.meaning.specs.Heap.{piles, finished as finishedRun};
-ghost use Rattle.weighing.specs.Links.{whole, linksOf};
-ghost use Rattle.weighing.specs.Side.{heapOf};
-ghost use Rattle.weighing.specs.Table.{held};
-ghost use Rattle.cutting.specs.Rows.{labelRow, recordRows};
-ghost use Rattle.cutting.specs.Calls.{written, Checked, Checking};
+ghost use Rattle.pairs.specs.Links.{whole, linksOf};
+ghost use Rattle.pairs.specs.Side.{heapOf};
+ghost use Rattle.pairs.specs.Table.{held};
+ghost use Rattle.heaps.specs.Rows.{recordRows};
+ghost use Rattle.cutting.specs.Rows.{labelRow};
+ghost use Rattle.heaps.specs.Names.{written};
+ghost use Rattle.cutting.specs.Calls.{Checked, Checking};
 
 // The names are written; their piles are counted; and they are searched, which tells whether the run that left them is finished.
 fn tell_piles(
@@ -25,7 +27,7 @@ fn tell_piles(
     names: &[u8; 128],
     labels: &mut [u8],
 ) -> Answer
-    requires { ⌜ (n ≤ 128) × (n ≤ length (now labels)) ⌝ }
+    requires { ⌜ n ≤ 128 ⌝ }
     ensures { λ r. ⌜ r ≡ Answer.Gave (piles n (heapOf (now (names .entry)))) (finishedRun n (held (now (table .entry))) k (heapOf (now (names .entry)))) ⌝ }
     ensures { λ _. ⌜ now (labels .exit) ≡ written n (heapOf (now (names .entry))) (now (labels .entry)) ⌝ }
 {

@@ -1,14 +1,14 @@
 // Grouping: a record is judged, and lawful cuts are added until every pile is firm. The part above the filled table serves every form of
 // links.
 use crate::Answer;
-use crate::heap::count_piles;
-use crate::heap::part;
-use crate::heap::write_names;
-use crate::judging::judge_record;
-use crate::record::Entry;
-use crate::record::Record;
-use crate::record::copy;
-use crate::record::write;
+use heaps::count_piles;
+use heaps::judge_record;
+use heaps::part;
+use heaps::record::Entry;
+use heaps::record::Record;
+use heaps::record::copy;
+use heaps::record::write;
+use heaps::write_names;
 use meaning::Judged;
 use weighing::fill;
 use weighing::search::Split;
@@ -22,14 +22,16 @@ ghost use Rattle.meaning.specs.declared.Judged.the-variants.{Accepted};
 ghost use Rattle.meaning.specs.Judge.{first};
 ghost use Rattle.meaning.specs.Firm.{label, groups};
 ghost use Rattle.meaning.specs.Heap.{start, left};
-ghost use Rattle.weighing.specs.Links.{whole, linksOf};
-ghost use Rattle.weighing.specs.Side.{heapOf};
-ghost use Rattle.weighing.specs.Table.{held};
+ghost use Rattle.pairs.specs.Links.{whole, linksOf};
+ghost use Rattle.pairs.specs.Side.{heapOf};
+ghost use Rattle.pairs.specs.Table.{held};
 ghost use Rattle.weighing.specs.Search.{cutOf as splitCut};
-ghost use Rattle.cutting.specs.Record.{entrySize, cutOf, cutsOf};
-ghost use Rattle.cutting.specs.Rows.{labelRow, spaceRow, recordRows};
+ghost use Rattle.heaps.specs.Record.{entrySize, cutOf, cutsOf};
+ghost use Rattle.heaps.specs.Rows.{recordRows};
+ghost use Rattle.cutting.specs.Rows.{labelRow, spaceRow};
 ghost use Rattle.cutting.specs.Finish.{Begun, Ended};
-ghost use Rattle.cutting.specs.Calls.{written, Continued, Grouped, Grouping};
+ghost use Rattle.heaps.specs.Names.{written};
+ghost use Rattle.cutting.specs.Calls.{Continued, Grouped, Grouping};
 
 // The entry that states a split.
 fn entry_of(split: Split) -> Entry
@@ -83,7 +85,7 @@ fn complete(
     labels: &mut [u8],
     space: &mut [u8],
 ) -> Answer
-    requires { ⌜ (0 < n) × (n ≤ 128) × (k ≤ 65535) × (n ≤ length (now labels)) × (entrySize * (n - 1) ≤ length (now space)) ⌝ }
+    requires { ⌜ (0 < n) × (n ≤ 128) × (k ≤ 65535) × (entrySize * (n - 1) ≤ length (now space)) ⌝ }
     requires { ⌜ (first (recordRows n (held (now table)) k (now entries)) ≡ Accepted) × (heapOf (now names) ≡ left n start (cutsOf (now entries))) × (length (now names) ≡ 128) ⌝ }
     ensures { λ r. ⌜ r ≡ Answer.Gave (groups n (held (now (table .entry))) k) true ⌝ }
     ensures { λ _. ⌜ now (labels .exit) ≡ written n (label n (held (now (table .entry))) k) (now (labels .entry)) ⌝ }

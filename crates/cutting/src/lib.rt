@@ -1,17 +1,16 @@
-// Cutting: the record of cuts, checking, grouping and thinning, and the calls from C.
+// Cutting: checking, grouping and thinning, and the calls from C. The record of cuts is that of the crate below.
 pub mod calls;
 mod check;
 mod group;
-mod heap;
-mod judging;
-pub mod record;
 mod records;
 mod thin;
 
 pub use check::checking;
 pub use group::grouping;
+pub use heaps::record;
 pub use records::checking_records;
 pub use records::grouping_records;
+pub use records::thinning_records;
 pub use thin::thinning;
 
 // What grouping and checking answer: a refusal of the table with its place, or the number of groups (of piles) and whether the run of cuts

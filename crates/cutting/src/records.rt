@@ -1,20 +1,28 @@
-// Checking and grouping with the links lent as a run of link records, read where they stand. The borrow checker covers no slice of structs, so the two
-// calls are proved by hand: each fills the table and leaves the rest to a function above the filled table.
+// Checking, grouping and thinning with the links lent as a run of link records, read where they stand. The borrow checker covers no slice of structs,
+// so the calls are proved by hand: each fills the table and leaves the rest to functions above the filled table.
 use crate::Answer;
+use crate::Thinned;
 use crate::check::check_table;
 use crate::group::group_table;
+use crate::thin::name_groups;
+use lent::records::fill_records;
+use lent::records::keep_links;
 use meaning::Judged;
 use meaning::Link;
-use weighing::records::fill_records;
 ghost use mathlib.Core.Path.{_≡_};
 ghost use mathlib.Core.Bool.{true};
-ghost use mathlib.Core.List.{_∷_};
-ghost use Prim.Native.Nat.{_≤_, _<_};
+ghost use mathlib.Core.List.{[], _∷_};
+ghost use Prim.Native.Nat.{ℕ, _≤_, _<_, _^_};
 ghost use lib.ListN.{length};
 ghost use Rattle.meaning.specs.declared.Judged.the-variants.{Accepted};
-ghost use Rattle.weighing.specs.Table.{held};
-ghost use Rattle.cutting.specs.Rows.{labelRow, spaceRow, recordRows};
-ghost use Rattle.cutting.specs.Calls.{Checked, Checking, Grouped, Grouping};
+ghost use Rattle.meaning.specs.Judge.{first};
+ghost use Rattle.meaning.specs.Firm.{label};
+ghost use Rattle.pairs.specs.Side.{heapOf};
+ghost use Rattle.pairs.specs.Table.{held};
+ghost use Rattle.heaps.specs.Rows.{recordRows};
+ghost use Rattle.cutting.specs.Rows.{labelRow, spaceRow, linkRow};
+ghost use Rattle.cutting.specs.Thin.{refused};
+ghost use Rattle.cutting.specs.Calls.{Checked, Checking, Grouped, Grouping, keeping, ThinningRecords};
 
 // Checking once the links were judged and added: their refusal, or what the table gives.
 pub(crate) fn check_judged(
@@ -76,4 +84,72 @@ pub fn grouping_records(
     let mut table = [0u32; 16384];
     let judged = fill_records(n, k, links, &mut table);
     group_judged(judged, &table, n, k, record, labels, space)
+}
+
+// Thinning once the links were judged and added: their refusal, or row 14, or the labels of the groups.
+pub(crate) fn label_judged(
+    judged: Judged,
+    table: &[u32; 16384],
+    n: u64,
+    k: u64,
+    count: usize,
+    room: usize,
+    labels: &mut [u8; 128],
+) -> Judged
+    requires { ⌜ (judged ≡ Accepted → (0 < n) × (n ≤ 128) × (k ≤ 65535)) ⌝ }
+    ensures { λ r. ⌜ (r ≡ first (judged ∷ linkRow count room ∷ [])) × (r ≡ Accepted → (b : ℕ) → b < n → heapOf (now (labels .exit)) b ≡ label n (held (now (table .entry))) k b) ⌝ }
+{
+    match judged {
+        Judged::Accepted => {}
+        Judged::Refused { number, place } => return Judged::Refused { number, place },
+    }
+    if room < count {
+        return Judged::Refused {
+            number: 14,
+            place: 0,
+        };
+    }
+    name_groups(table, n as usize, k, labels);
+    Judged::Accepted
+}
+
+// Whether anything is refused.
+fn refuses(judged: Judged) -> bool
+    ensures { λ r. ⌜ r ≡ refused judged ⌝ }
+{
+    match judged {
+        Judged::Accepted => false,
+        Judged::Refused {
+            number: _,
+            place: _,
+        } => true,
+    }
+}
+
+// The refusal, or the number of links kept.
+fn thinned(judged: Judged, count: usize) -> Thinned
+    requires { ⌜ (judged ≡ Accepted → count < 2 ^ 32) ⌝ }
+    ensures { λ r. ⌜ r ≡ keeping judged count ⌝ }
+{
+    match judged {
+        Judged::Accepted => Thinned::Kept {
+            count: count as u32,
+        },
+        Judged::Refused { number, place } => Thinned::Refused { number, place },
+    }
+}
+
+// Thins the links, as `thinning` does, with the links lent as records, and the room too.
+pub fn thinning_records(n: u64, k: u64, links: &[Link], space: &mut [Link]) -> Thinned
+    ensures { λ r. ⌜ ThinningRecords n k (now (links .entry)) (now (space .entry)) (now (space .exit)) r ⌝ }
+{
+    let mut table = [0u32; 16384];
+    let mut labels = [0u8; 128];
+    let filled = fill_records(n, k, links, &mut table);
+    let judged = label_judged(filled, &table, n, k, links.len(), space.len(), &mut labels);
+    if refuses(judged) {
+        return thinned(judged, 0);
+    }
+    let kept = keep_links(links, &labels, space);
+    thinned(judged, kept)
 }

@@ -1,8 +1,8 @@
 // Thinning: the links whose ends share a group stay.
 use crate::Thinned;
 use crate::group::finish;
-use crate::record::Record;
-use crate::record::copy;
+use heaps::record::Record;
+use heaps::record::copy;
 use meaning::Judged;
 use weighing::fill;
 ghost use mathlib.Core.Path.{_≡_};
@@ -13,13 +13,13 @@ ghost use lib.ListN.{length, take, drop};
 ghost use Rattle.meaning.specs.declared.Judged.the-variants.{Accepted};
 ghost use Rattle.meaning.specs.Judge.{first};
 ghost use Rattle.meaning.specs.Firm.{label};
-ghost use Rattle.meaning.specs.Heap.{start};
-ghost use Rattle.weighing.specs.Links.{whole, linksOf, linkAt, linksRows};
-ghost use Rattle.weighing.specs.Side.{heapOf};
-ghost use Rattle.weighing.specs.Table.{held};
+ghost use Rattle.pairs.specs.Links.{whole, linksOf, linkAt, linksRows};
+ghost use Rattle.lent.specs.Records.{sameLabel, keptLinks};
+ghost use Rattle.pairs.specs.Side.{heapOf};
+ghost use Rattle.pairs.specs.Table.{held};
 ghost use Rattle.cutting.specs.Rows.{linkRow};
 ghost use Rattle.cutting.specs.Thin.{Keeps};
-ghost use Rattle.cutting.specs.Calls.{kept as keptLinks, linkBytes, over, Thins, Thinning};
+ghost use Rattle.cutting.specs.Calls.{linkBytes, over, Thins, Thinning};
 
 // Whether two bones bear one name.
 fn same_pile(names: &[u8; 128], a: u8, b: u8) -> bool
@@ -33,7 +33,7 @@ fn same_pile(names: &[u8; 128], a: u8, b: u8) -> bool
 fn keep_link(names: &[u8; 128], links: &[u8], i: usize, space: &mut [u8], kept: usize) -> usize
     requires { ⌜ (i * 4 + 4 ≤ length (now links)) × (linkAt (now links) i .a < 128) × (linkAt (now links) i .b < 128) ⌝ }
     requires { ⌜ kept * 4 + 4 ≤ length (now space) ⌝ }
-    ensures { λ r. ⌜ Keeps (heapOf (now (names .entry))) (linkAt (now (links .entry)) i) (take 4 (drop (i * 4) (now (links .entry)))) (now (space .entry)) kept (now (space .exit)) r ⌝ }
+    ensures { λ r. ⌜ Keeps (sameLabel (now (names .entry)) (linkAt (now (links .entry)) i)) (take 4 (drop (i * 4) (now (links .entry)))) (now (space .entry)) kept (now (space .exit)) r ⌝ }
 {
     let at = i * 4;
     if !same_pile(names, links[at], links[at + 1]) {
@@ -46,8 +46,8 @@ fn keep_link(names: &[u8; 128], links: &[u8], i: usize, space: &mut [u8], kept: 
 // The links whose ends bear one name go to the front of the link space, in order.
 fn keep(names: &[u8; 128], links: &[u8], space: &mut [u8]) -> usize
     requires { ⌜ (first (linksRows 128 0 (linksOf (now links))) ≡ Accepted) × (length (now links) / 4 ≤ length (now space) / 4) ⌝ }
-    ensures { λ r. ⌜ r ≡ length (keptLinks (heapOf (now (names .entry))) (linksOf (now (links .entry)))) ⌝ }
-    ensures { λ _. ⌜ now (space .exit) ≡ over (linkBytes (keptLinks (heapOf (now (names .entry))) (linksOf (now (links .entry))))) (now (space .entry)) ⌝ }
+    ensures { λ r. ⌜ r ≡ length (keptLinks (now (names .entry)) (linksOf (now (links .entry)))) ⌝ }
+    ensures { λ _. ⌜ now (space .exit) ≡ over (linkBytes (keptLinks (now (names .entry)) (linksOf (now (links .entry))))) (now (space .entry)) ⌝ }
 {
     let count = links.len() / 4;
     let mut kept = 0;
@@ -59,11 +59,12 @@ fn keep(names: &[u8; 128], links: &[u8], space: &mut [u8]) -> usize
     kept
 }
 
-// The names of one pile of all bones become the labels: cuts are made from the empty record until every pile is firm.
-fn name_groups(table: &[u32; 16384], n: usize, k: u64, names: &mut [u8; 128])
-    requires { ⌜ (0 < n) × (n ≤ 128) × (k ≤ 65535) × (heapOf (now names) ≡ start) × (length (now names) ≡ 128) ⌝ }
+// The names become the labels: from one pile of all bones, cuts are made from the empty record on until every pile is firm.
+pub(crate) fn name_groups(table: &[u32; 16384], n: usize, k: u64, names: &mut [u8; 128])
+    requires { ⌜ (0 < n) × (n ≤ 128) × (k ≤ 65535) ⌝ }
     ensures { λ _. ⌜ ((b : ℕ) → b < n → heapOf (now (names .exit)) b ≡ label n (held (now (table .entry))) k b) ⌝ }
 {
+    *names = [0u8; 128];
     let mut entries = [0u8; 127 * Record::ENTRY];
     finish(table, n, k, names, &mut entries, Record::empty());
 }
@@ -77,7 +78,7 @@ pub(crate) fn thin_table(
     space: &mut [u8],
 ) -> Thinned
     requires { ⌜ (0 < n) × (n ≤ 128) × (k ≤ 65535) × (length (now links) / 4 ≤ 4096) × (first (linksRows n 0 (linksOf (now links))) ≡ Accepted) ⌝ }
-    ensures { λ r. ⌜ Thins (linkRow (length (linksOf (now (links .entry)))) (length (now (space .entry)) / 4) ∷ []) n (held (now (table .entry))) k (linksOf (now (links .entry))) (now (space .entry)) (now (space .exit)) r ⌝ }
+    ensures { λ r. ⌜ Thins linkBytes (linkRow (length (linksOf (now (links .entry)))) (length (now (space .entry)) / 4) ∷ []) n (held (now (table .entry))) k (linksOf (now (links .entry))) (now (space .entry)) (now (space .exit)) r ⌝ }
 {
     if space.len() / 4 < links.len() / 4 {
         return Thinned::Refused {

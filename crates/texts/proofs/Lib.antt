@@ -1,20 +1,9 @@
--- The laws about frames and lines, about reading and writing them, and the theorems about texts.
-pub mod Frames
-pub mod Lines
-pub mod Stages
-pub mod Walks
-pub mod Judging
-pub mod ReadsText
-pub mod Advances
-pub mod ReadsRows
-pub mod ReadsStore
-pub mod ReadsPut
-pub mod ReadsAll
-pub mod ReadsRow
+-- The laws about writing lines and texts, and the theorems about texts.
 pub mod Writes
 pub mod WritesLines
 pub mod WritesTexts
 pub mod WritesRows
+pub mod WritesResult
 pub mod WritesLinks
 pub mod WritesRecord
 pub mod WritesLent

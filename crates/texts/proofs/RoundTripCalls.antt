@@ -14,19 +14,19 @@ use Rattle.meaning.specs.declared.Judged.{Judged}
 use Rattle.meaning.specs.declared.Judged.the-variants.{Accepted, Refused}
 use Rattle.meaning.specs.Judge.{refuse, first}
 use Rattle.meaning.proofs.Tests.{fails, decide, taut, so, _⊃_}
-use Rattle.weighing.specs.Links.{countRows, linksRows, tableRows}
-use Rattle.weighing.proofs.LinksRows.{first-accepted, accepted-left, accepted-right, Counted, counts-accepted}
-use Rattle.cutting.specs.Record.{entrySize}
-use Rattle.cutting.specs.Rows.{recordRow}
-use Rattle.texts.specs.declared.Reading.{Reading}
-use Rattle.texts.specs.declared.Reading.the-variants.{Got}
+use Rattle.pairs.specs.Links.{countRows, linksRows, tableRows}
+use Rattle.pairs.proofs.LinksRows.{first-accepted, accepted-left, accepted-right, Counted, counts-accepted}
+use Rattle.heaps.specs.Record.{entrySize}
+use Rattle.heaps.specs.Rows.{recordRow}
+use Rattle.reading.specs.declared.Reading.{Reading}
+use Rattle.reading.specs.declared.Reading.the-variants.{Got}
 use Rattle.texts.specs.declared.Written.{Written}
 use Rattle.texts.specs.declared.Written.the-variants.{Bytes as Wrote}
-use Rattle.texts.specs.declared.stage.Stage.the-variants.{Opening}
-use Rattle.texts.specs.Lines.{Line, linesOf, lineRows}
-use Rattle.texts.specs.Reader.{linksIn, entriesIn, bonesIn, thresholdIn, readerRows, read, put, Reads}
+use Rattle.reading.specs.declared.stage.Stage.the-variants.{Opening}
+use Rattle.reading.specs.Lines.{Line, linesOf, lineRows}
+use Rattle.reading.specs.Reader.{linksIn, entriesIn, bonesIn, thresholdIn, readerRows, read, put, Reads}
 use Rattle.texts.specs.Writers.{inputText, inputRows, unnoted, wrote, Writes}
-use Rattle.texts.proofs.Frames.{Bytes}
+use Rattle.reading.proofs.Frames.{Bytes}
 use Rattle.texts.proofs.WritesTexts.{length-input}
 use Rattle.texts.proofs.RoundTripLines.{passes}
 use Rattle.texts.proofs.RoundTripWritten.{Smalls, Written as Fits, rows-passed, bones-back, threshold-back, links-back, entries-back}

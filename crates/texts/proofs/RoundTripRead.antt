@@ -14,14 +14,14 @@ use Rattle.meaning.specs.declared.Judged.{Judged}
 use Rattle.meaning.specs.declared.Judged.the-variants.{Accepted, Refused}
 use Rattle.meaning.specs.Judge.{refuse, first}
 use Rattle.meaning.proofs.Tests.{left-of, right-of, either, eq→eqb, neqb→ne, is-true, is-false, decide, taut, so, _⊃_}
-use Rattle.cutting.specs.Record.{entrySize}
-use Rattle.texts.specs.Frame.{payloads, byteSum, line, wellFormed}
-use Rattle.texts.specs.declared.stage.Stage.{Stage}
-use Rattle.texts.specs.declared.stage.Stage.the-variants.{Opening, Linking, Cutting, Closed}
-use Rattle.texts.specs.Lines.{Line, before, linesOf, frame, kind, pair, follows, after, open-at, lineRows}
-use Rattle.texts.specs.Reader.{linkIn, linksIn, entryIn, entriesIn, bonesIn, thresholdIn}
+use Rattle.heaps.specs.Record.{entrySize}
+use Rattle.reading.specs.Frame.{payloads, byteSum, line, wellFormed}
+use Rattle.reading.specs.declared.stage.Stage.{Stage}
+use Rattle.reading.specs.declared.stage.Stage.the-variants.{Opening, Linking, Cutting, Closed}
+use Rattle.reading.specs.Lines.{Line, before, linesOf, frame, kind, pair, follows, after, open-at, lineRows}
+use Rattle.reading.specs.Reader.{linkIn, linksIn, entryIn, entriesIn, bonesIn, thresholdIn}
 use Rattle.texts.specs.Writers.{two, headLine, linkLine, linkLines, cutLines, closeLine, inputText, unnoted}
-use Rattle.texts.proofs.Frames.{Bytes, bytes-bytesOf, well-parts, line-only}
+use Rattle.reading.proofs.Frames.{Bytes, bytes-bytesOf, well-parts, line-only}
 
 -- a text is its lines, one behind the other
 pub joined : List Line → List ℕ

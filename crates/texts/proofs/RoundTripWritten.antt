@@ -12,14 +12,14 @@ use Rattle.meaning.specs.declared.Link.{Link}
 use Rattle.meaning.specs.declared.Judged.the-variants.{Accepted}
 use Rattle.meaning.specs.Judge.{refuse, first}
 use Rattle.meaning.proofs.Tests.{eq→eqb}
-use Rattle.cutting.specs.Record.{entrySize}
-use Rattle.texts.specs.Frame.{isKind, line}
-use Rattle.texts.specs.declared.stage.Stage.{Stage}
-use Rattle.texts.specs.declared.stage.Stage.the-variants.{Opening, Linking, Cutting, Closed}
-use Rattle.texts.specs.Lines.{Line, linesOf, frame, kind, pair, follows, after, open-at, lineRows}
-use Rattle.texts.specs.Reader.{linkIn, linksIn, entryIn, entriesIn, bonesIn, thresholdIn}
+use Rattle.heaps.specs.Record.{entrySize}
+use Rattle.reading.specs.Frame.{isKind, line}
+use Rattle.reading.specs.declared.stage.Stage.{Stage}
+use Rattle.reading.specs.declared.stage.Stage.the-variants.{Opening, Linking, Cutting, Closed}
+use Rattle.reading.specs.Lines.{Line, linesOf, frame, kind, pair, follows, after, open-at, lineRows}
+use Rattle.reading.specs.Reader.{linkIn, linksIn, entryIn, entriesIn, bonesIn, thresholdIn}
 use Rattle.texts.specs.Writers.{two, headLine, linkLine, linkLines, cutLines, closeLine, inputText}
-use Rattle.texts.proofs.Frames.{Bytes, whole}
+use Rattle.reading.proofs.Frames.{Bytes, whole}
 use Rattle.texts.proofs.RoundTripLines.{lineOf, first-line, frame-is, kind-is, pair-is, row-passed, not-not}
 
 -- runs of bytes

@@ -10,15 +10,15 @@ use Rattle.meaning.specs.declared.Link.{Link}
 use Rattle.meaning.specs.declared.Judged.{Judged}
 use Rattle.meaning.specs.declared.Judged.the-variants.{Accepted}
 use Rattle.meaning.specs.Judge.{first}
-use Rattle.cutting.specs.Record.{entrySize}
-use Rattle.texts.specs.declared.Reading.{Reading}
-use Rattle.texts.specs.declared.Reading.the-variants.{Got}
+use Rattle.heaps.specs.Record.{entrySize}
+use Rattle.reading.specs.declared.Reading.{Reading}
+use Rattle.reading.specs.declared.Reading.the-variants.{Got}
 use Rattle.texts.specs.declared.Written.{Written}
 use Rattle.texts.specs.declared.Written.the-variants.{Bytes as Wrote}
-use Rattle.texts.specs.Lines.{linesOf, lineRows}
-use Rattle.texts.specs.Reader.{linksIn, entriesIn, bonesIn, thresholdIn, readerRows, Reads}
+use Rattle.reading.specs.Lines.{linesOf, lineRows}
+use Rattle.reading.specs.Reader.{linksIn, entriesIn, bonesIn, thresholdIn, readerRows, Reads}
 use Rattle.texts.specs.Writers.{inputText, resultText, inputRows, unnoted, Writes}
-use Rattle.texts.proofs.Frames.{Bytes}
+use Rattle.reading.proofs.Frames.{Bytes}
 use Rattle.texts.proofs.WritesTexts.{length-input, length-result}
 use Rattle.texts.proofs.RoundTripWritten.{Smalls}
 use Rattle.texts.proofs.RoundTripRead.{text-back}

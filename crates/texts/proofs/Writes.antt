@@ -8,9 +8,9 @@ use native.Mathlib.Numerals.{add-one}
 use native.Mathlib.Omega.{arith}
 use lib.ListN.{length, getD, take, drop, set, length-append, length-drop, take-append-drop}
 use lib.Seq.{length-take-le, take-at, drop-at, drop-drop, set-split, append-snoc, sets-eq, take-suc, take-append-le, take-take}
-use Rattle.texts.specs.Frame.{byteSum, sumByte, hex, line}
+use Rattle.reading.specs.Frame.{byteSum, sumByte, hex, line}
 use Rattle.texts.specs.Writing.{over}
-use Rattle.texts.proofs.Frames.{length-hex, hex-append, sum-bound, sum-snoc, whole, whole-length}
+use Rattle.reading.proofs.Frames.{length-hex, hex-append, sum-bound, sum-snoc, whole, whole-length}
 
 pub over-nil : (room : List ℕ) (at : ℕ) → over room at [] ≡ room
 unfolding over

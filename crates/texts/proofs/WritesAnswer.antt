@@ -35,8 +35,11 @@ pub unit-so : Tells unit (Is unit) (λ r. vunit ∷ [])
 unit-so r vs is = is
 
 module _ {M : Type 1} (𝓤 : URA M) (H : Heap 𝓤) (A : Atoms 𝓤) (W : Given 𝓤 H A) where
+  pub typed-held : (r : Written) (v : Val) → Is Wn r (v ∷ []) → T (hasTy written v) × WT v
+  typed-held r v is = EL.lawful Wr.the-type Wr′.the-laws 𝓤 H A W tt .typed r (v ∷ []) is .0
+
   pub typed-written : (r : Written) → IsWritten r → T (hasTy written (said r)) × WT (said r)
-  typed-written r is = EL.lawful Wr.the-type Wr′.the-laws 𝓤 H A W tt .typed r _ is .0
+  typed-written r is = typed-held r (said r) is
 
   pub made-written : Makes 𝓤 H A Wn (Is Wn)
   made-written = EL.makes Wr.the-type Wr′.the-plain 𝓤 H A

@@ -12,14 +12,14 @@ use Rattle.meaning.specs.declared.Link.{Link}
 use Rattle.meaning.specs.declared.Judged.{Judged}
 use Rattle.meaning.specs.declared.Judged.the-variants.{Accepted, Refused}
 use Rattle.meaning.specs.Judge.{refuse, first}
-use Rattle.weighing.specs.Links.{tableRows}
-use Rattle.weighing.specs.Records.{firstOf}
-use Rattle.weighing.proofs.LinksRows.{table-counted}
-use Rattle.cutting.specs.Record.{entrySize}
-use Rattle.cutting.specs.Rows.{recordRow}
+use Rattle.pairs.specs.Links.{tableRows}
+use Rattle.lent.specs.Records.{firstOf}
+use Rattle.pairs.proofs.LinksRows.{table-counted}
+use Rattle.heaps.specs.Record.{entrySize}
+use Rattle.heaps.specs.Rows.{recordRow}
 use Rattle.texts.specs.declared.Written.{Written}
 use Rattle.texts.specs.declared.Written.the-variants.{Bytes, Refused as Refused·written}
-use Rattle.texts.specs.Reader.{put}
+use Rattle.reading.specs.Reader.{put}
 use Rattle.texts.specs.Writers.{headLine, cutLines, closeLine, inputText, inputRows, wrote, Writes}
 use Rattle.texts.specs.Writing.{over, Counts, inputSize, laterRows, around, Begun, linksLeft}
 use Rattle.texts.proofs.Writes.{length-over}

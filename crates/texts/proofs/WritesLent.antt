@@ -33,8 +33,8 @@ use denote.Triple.Entry.{Args, Vals}
 use denote.Triple.End.{Kepts}
 use denote.Triple.Spec.{tripleOf}
 use denote.Triple.Clauses.{Clauses, Ended, Lasts, atExit, lasts, closing}
-use Rattle.weighing.proofs.RecordsCalls.{calls-to}
-use Rattle.weighing.proofs.RecordsAgain.{LentAgain, lends-again, comes-back}
+use Rattle.lent.proofs.RecordsCalls.{calls-to}
+use Rattle.lent.proofs.RecordsAgain.{LentAgain, lends-again, comes-back}
 
 abbrev pub textRef : ℕ → ℕ → GName → List ℕ → RefT (List ℕ)
 textRef b o γ zs = record { ptr = (b, o); name = γ; now = zs }

@@ -31,9 +31,9 @@ use denote.Triple.Statement.{Contract, Triple}
 use denote.Triple.Spec.{tripleOf}
 use denote.Triple.Walked.{says}
 use Rattle.meaning.specs.declared.Link.{Link}
-use Rattle.weighing.proofs.RecordsLink.{R, val, IsLink, made}
-use Rattle.weighing.proofs.RecordsCalls.{calls-to}
-use Rattle.weighing.proofs.RecordsAgain.{LentAgain, lends-again, comes-back}
+use Rattle.lent.proofs.RecordsLink.{R, val, IsLink, made}
+use Rattle.lent.proofs.RecordsCalls.{calls-to}
+use Rattle.lent.proofs.RecordsAgain.{LentAgain, lends-again, comes-back}
 use Rattle.texts.specs.Writers.{linkLine}
 use Rattle.texts.specs.Writing.{over}
 use Rattle.texts.proofs.Writes.{length-over}

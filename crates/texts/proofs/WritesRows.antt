@@ -14,13 +14,13 @@ use Rattle.meaning.specs.declared.Judged.the-variants.{Accepted, Refused}
 use Rattle.meaning.specs.Judge.{refuse, first}
 use Rattle.meaning.proofs.Tests.{taut, so, _⊃_}
 use Rattle.meaning.specs.Tally.{pairTally}
-use Rattle.weighing.specs.Links.{tableRows}
-use Rattle.weighing.specs.Records.{firstOf}
-use Rattle.cutting.specs.Record.{entrySize}
-use Rattle.cutting.specs.Rows.{recordRow, recordRows}
+use Rattle.pairs.specs.Links.{tableRows}
+use Rattle.lent.specs.Records.{firstOf}
+use Rattle.heaps.specs.Record.{entrySize}
+use Rattle.heaps.specs.Rows.{recordRow, recordRows}
 use Rattle.texts.specs.declared.Written.{Written}
 use Rattle.texts.specs.declared.Written.the-variants.{Bytes, Refused as Refused·written}
-use Rattle.texts.specs.Reader.{put}
+use Rattle.reading.specs.Reader.{put}
 use Rattle.texts.specs.Writers.{headLine, cutLines, closeLine, resultText, resultRows, wrote, Writes}
 use Rattle.texts.specs.Writing.{over, inputSize, laterRows, around, Begun, linksLeft}
 use Rattle.texts.proofs.Writes.{onto, length-over}

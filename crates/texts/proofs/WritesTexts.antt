@@ -11,10 +11,10 @@ use lib.ListN.{length, drop, length-append}
 use Rattle.meaning.specs.declared.Link.{Link}
 use Rattle.meaning.specs.Judge.{refuse}
 use Rattle.meaning.specs.Heap.{Heap, start, left}
-use Rattle.weighing.specs.Side.{heapOf}
-use Rattle.cutting.specs.Record.{entrySize, cutsOf}
+use Rattle.pairs.specs.Side.{heapOf}
+use Rattle.heaps.specs.Record.{entrySize, cutsOf}
 use Rattle.texts.specs.declared.Written.the-variants.{Bytes, Refused}
-use Rattle.texts.specs.Reader.{put}
+use Rattle.reading.specs.Reader.{put}
 use Rattle.texts.specs.Writers.{headLine, linkLines, cutLines, labelLines, closeLine, inputText, resultText, wrote, Writes}
 use Rattle.texts.specs.Writing.{over, Named}
 use Rattle.texts.proofs.Writes.{onto}

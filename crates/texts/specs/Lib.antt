@@ -1,9 +1,3 @@
--- What the texts' promises cite.
-pub mod Frame
-pub mod Lines
-pub mod Reader
-pub mod Walk
-pub mod Judging
-pub mod Storing
+-- What the writers' promises cite.
 pub mod Writers
 pub mod Writing

@@ -11,14 +11,14 @@ use Rattle.meaning.specs.declared.Judged.the-variants.{Accepted, Refused}
 use Rattle.meaning.specs.Judge.{refuse, first}
 use Rattle.meaning.specs.Tally.{pairTally}
 use Rattle.meaning.specs.Heap.{Heap, start, left}
-use Rattle.weighing.specs.Links.{tableRows}
-use Rattle.cutting.specs.Record.{entrySize, cutsOf}
-use Rattle.cutting.specs.Rows.{recordRow, recordRows}
+use Rattle.pairs.specs.Links.{tableRows}
+use Rattle.heaps.specs.Record.{entrySize, cutsOf}
+use Rattle.heaps.specs.Rows.{recordRow, recordRows}
 use Rattle.texts.specs.declared.Written.{Written}
 use Rattle.texts.specs.declared.Written.the-variants.{Bytes, Refused as Refused·written}
-use Rattle.texts.specs.Frame.{line}
-use Rattle.texts.specs.Lines.{Line, kind}
-use Rattle.texts.specs.Reader.{put}
+use Rattle.reading.specs.Frame.{line}
+use Rattle.reading.specs.Lines.{Line, kind}
+use Rattle.reading.specs.Reader.{put}
 
 -- a number in two bytes, high byte first
 unfoldable pub two : ℕ → List ℕ

@@ -1,19 +1,25 @@
-// The result writer: head, the record's cuts, the pile names that they leave, close.
+// The result writer: head, the record's cuts, the pile names that they leave, close. Its links are lent as records, so the writer itself is proved by
+// hand: it fills the table and leaves the rest to a function above the filled table.
 use super::Written;
 use super::kinds::put_close;
 use super::kinds::put_cuts;
 use super::kinds::put_head;
 use super::kinds::put_labels;
-use cutting::record::Record;
+use heaps::judge_record;
+use heaps::record::Record;
+use lent::records::fill_records;
 use meaning::Judged;
+use meaning::Link;
 ghost use mathlib.Core.Path.{_≡_};
-ghost use Prim.Native.Nat.{_+_, _*_, _≤_};
+ghost use Prim.Native.Nat.{_+_, _*_, _≤_, _<_};
 ghost use lib.Dec.{ltb};
 ghost use lib.ListN.{length};
-ghost use Rattle.meaning.specs.Judge.{refuse};
+ghost use Rattle.meaning.specs.Judge.{refuse, first};
 ghost use Rattle.meaning.specs.declared.Judged.the-variants.{Accepted};
-ghost use Rattle.weighing.specs.Records.{firstOf};
-ghost use Rattle.texts.specs.Writers.{resultText, Writes};
+ghost use Rattle.lent.specs.Records.{firstOf};
+ghost use Rattle.pairs.specs.Table.{held};
+ghost use Rattle.heaps.specs.Rows.{recordRows};
+ghost use Rattle.texts.specs.Writers.{resultText, resultRows, Writes};
 ghost use Rattle.texts.specs.Writing.{over, Named};
 
 // The length of a result text.
@@ -77,4 +83,36 @@ pub(crate) fn result_after(
         Judged::Refused { number, place } => Written::Refused { number, place },
         Judged::Accepted => result_from(room, n, k, bytes, names),
     }
+}
+
+// The result writer once the links were judged and added: their refusal; else rows 9 to 13, while the record is replayed, and then row 20 and the
+// text.
+pub(crate) fn result_judged(
+    judged: Judged,
+    table: &[u32; 16384],
+    n: u64,
+    k: u64,
+    bytes: &[u8],
+    text: &mut [u8],
+) -> Written
+    requires { ⌜ (judged ≡ Accepted → (0 < n) × (n ≤ 128) × (k ≤ 65535)) ⌝ }
+    ensures { λ r. ⌜ Writes (firstOf (firstOf judged (first (recordRows n (held (now (table .entry))) k (now (bytes .entry))))) (refuse (ltb (length (now (text .entry))) (length (resultText n k (now (bytes .entry))))) 20 0)) (resultText n k (now (bytes .entry))) (now (text .entry)) (now (text .exit)) r ⌝ }
+{
+    match judged {
+        Judged::Refused { number, place } => Written::Refused { number, place },
+        Judged::Accepted => {
+            let mut names = [0u8; 128];
+            let replayed = judge_record(table, n as usize, k, bytes, &mut names);
+            result_after(replayed, n, k, bytes, &names, text)
+        }
+    }
+}
+
+// Writes a result text of links lent as records: rows 1 to 6, 9 to 13 and 20, then the text.
+pub fn write_result(n: u64, k: u64, links: &[Link], bytes: &[u8], text: &mut [u8]) -> Written
+    ensures { λ r. ⌜ Writes (first (resultRows n k (now (links .entry)) (now (bytes .entry)) (length (now (text .entry))))) (resultText n k (now (bytes .entry))) (now (text .entry)) (now (text .exit)) r ⌝ }
+{
+    let mut table = [0u32; 16384];
+    let judged = fill_records(n, k, links, &mut table);
+    result_judged(judged, &table, n, k, bytes, text)
 }

@@ -3,7 +3,7 @@ ghost use mathlib.Core.Path.{_≡_};
 ghost use mathlib.Core.List.{[], _∷_, _++_};
 ghost use Prim.Native.Nat.{_+_, _*_, _≤_, _<_};
 ghost use lib.ListN.{length};
-ghost use Rattle.texts.specs.Frame.{byteSum, digit, hex, line};
+ghost use Rattle.reading.specs.Frame.{byteSum, digit, hex, line};
 ghost use Rattle.texts.specs.Writing.{over};
 
 // The character of a digit.

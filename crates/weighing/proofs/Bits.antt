@@ -12,9 +12,10 @@ use lib.ListN.{length, getD, List·getD-eq-default}
 use Rattle.meaning.specs.Count.{Bones}
 use Rattle.meaning.specs.Heap.{Heap}
 use Rattle.meaning.proofs.Tests.{decide, is-false, left-of, right-of, both}
-use Rattle.weighing.proofs.Filling.{cond-yes, cond-no}
-use Rattle.weighing.specs.Side.{sideOf}
-use Rattle.weighing.specs.Scan.{byteOf, bitOf, untaken}
+use Rattle.pairs.proofs.Filling.{cond-yes, cond-no}
+use Rattle.pairs.specs.Side.{sideOf}
+use Rattle.growing.specs.Blocks.{untaken}
+use Rattle.weighing.specs.Scan.{byteOf, bitOf}
 
 pub bit-small : (S : Bones) (name : Heap) (free : Bones) (b : ℕ) → bitOf S name free b ≤ 1
 unfolding bitOf

@@ -6,7 +6,7 @@ use lib.Dec.{T, eqb, eqb→eq}
 use Rattle.meaning.specs.Count.{Bones}
 use Rattle.meaning.specs.Heap.{Heap}
 use Rattle.meaning.proofs.Tests.{both, left-of, right-of, eq→eqb}
-use Rattle.weighing.specs.Scan.{inBlock}
+use Rattle.growing.specs.Blocks.{inBlock}
 
 pub block-in : (S : Bones) (name : Heap) (x b : ℕ) → T (S b) → name b ≡ x → T (inBlock S name x b)
 unfolding inBlock

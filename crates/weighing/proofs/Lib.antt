@@ -1,36 +1,7 @@
--- The laws of weighing.
-pub mod LinksRows
-pub mod LinksBytes
-pub mod TableSpots
-pub mod TableAdds
-pub mod TableHeld
-pub mod Sides
+-- The laws of scans and of the search.
 pub mod Blocks
-pub mod Attach
-pub mod Adjacency
-pub mod Merging
 pub mod Picking
-pub mod Filling
 pub mod Scanning
 pub mod Passing
 pub mod Bits
 pub mod Searching
-pub mod Growing
-pub mod GrowRows
-pub mod GrowState
-pub mod GrowEnds
-pub mod Flowing
-pub mod WaysListed
-pub mod ProbeSent
-pub mod ProbeWeighs
-pub mod RecordsRows
-pub mod RecordsKept
-pub mod RecordsLink
-pub mod RecordsCalls
-pub mod RecordsRead
-pub mod RecordsShort
-pub mod RecordsTable
-pub mod RecordsLocal
-pub mod RecordsFill
-pub mod RecordsAgain
-pub mod RecordsStore

@@ -14,12 +14,14 @@ use Rattle.meaning.specs.Tally.{Tally}
 use Rattle.meaning.specs.Heap.{Heap}
 use Rattle.meaning.proofs.Tests.{decide, taut, so, _⊃_}
 use Rattle.meaning.proofs.Totals.{Symmetric}
-use Rattle.weighing.specs.Side.{heapOf}
-use Rattle.weighing.specs.Scan.{inBlock, cross, marked, Room, Grown, Filled, Picked, BlockNames, Passed, butFor}
-use Rattle.weighing.proofs.Adjacency.{light-joins}
-use Rattle.weighing.proofs.Merging.{Gone, Choice, names-after, kept-after, fewer-after}
-use Rattle.weighing.proofs.Filling.{cond-yes, cond-no}
-use Rattle.weighing.proofs.Scanning.{State, closed-set, picked-greatest, picked-light, state-taken, gone-taken, lost-taken, count-taken, state-start, start-free, start-greatest, start-alone}
+use Rattle.pairs.specs.Side.{heapOf}
+use Rattle.growing.specs.Blocks.{inBlock, cross, BlockNames, butFor}
+use Rattle.pairs.specs.Marks.{marked, Room, Grown, Filled}
+use Rattle.weighing.specs.Scan.{Picked, Passed}
+use Rattle.growing.proofs.Adjacency.{light-joins}
+use Rattle.growing.proofs.Merging.{closed-set, Gone, Choice, names-after, kept-after, fewer-after}
+use Rattle.pairs.proofs.Filling.{cond-yes, cond-no}
+use Rattle.weighing.proofs.Scanning.{State, picked-greatest, picked-light, state-taken, gone-taken, lost-taken, count-taken, state-start, start-free, start-greatest, start-alone}
 
 -- what holds whenever the next block has been picked: the scan's state, the block taken last, that p's block was taken, the block picked
 -- next, and where there is none, that the last one lost its name

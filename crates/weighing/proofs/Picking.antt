@@ -13,7 +13,7 @@ use lib.ListN.{getD}
 use Rattle.meaning.specs.Count.{Bones, sum}
 use Rattle.meaning.proofs.Tests.{is-true, is-false, decide}
 use Rattle.weighing.specs.Scan.{Picked, Looked}
-use Rattle.weighing.proofs.Attach.{sum-next}
+use Rattle.meaning.proofs.Sums.{sum-next}
 
 -- a sum of m terms of at most b
 pub sum-most : (m b : ℕ) (f : ℕ → ℕ) → ((i : ℕ) → f i ≤ b) → sum m f ≤ m * b

@@ -17,11 +17,14 @@ use Rattle.meaning.proofs.Tests.{decide, taut, so, _⊃_, both, left-of, right-
 use Rattle.meaning.proofs.Totals.{Symmetric}
 use Rattle.meaning.proofs.Sums.{sum-ext, count-most}
 use Rattle.meaning.proofs.Sets.{some-intro}
-use Rattle.weighing.specs.Side.{heapOf}
-use Rattle.weighing.specs.Scan.{inBlock, taken, untaken, cross, marked, Grown, Filled, Picked, BlockNames, LightSide, butFor}
-use Rattle.weighing.proofs.Attach.{butFor-other}
-use Rattle.weighing.proofs.Adjacency.{same-beq, Closed, Bounded, Greatest, cross-taken, cross-none, bounded-taken, bounded-none, out-weight, untaken-weight, last-weight}
-use Rattle.weighing.proofs.Merging.{Gone, Merged, Choice, merged-none, merged-taken, gone-u, count-fewer}
+use Rattle.pairs.specs.Side.{heapOf}
+use Rattle.growing.specs.Blocks.{inBlock, taken, untaken, cross, BlockNames, LightSide, butFor}
+use Rattle.pairs.specs.Marks.{marked, Grown, Filled}
+use Rattle.weighing.specs.Scan.{Picked}
+use Rattle.pairs.proofs.Filling.{zeros}
+use Rattle.growing.proofs.Attach.{butFor-other}
+use Rattle.growing.proofs.Adjacency.{same-beq, Closed, Bounded, Greatest, cross-taken, cross-none, bounded-taken, bounded-none, out-weight, untaken-weight, last-weight}
+use Rattle.growing.proofs.Merging.{closed-set, Gone, Merged, Choice, merged-none, merged-taken, gone-u, count-fewer}
 
 pub record State (n : ℕ) (w : Tally) (k : ℕ) (S : Bones) (name : Heap) (free attach next : List ℕ) (last : ℕ) : Type 0 where
   pub free-long : length free ≡ 128
@@ -33,40 +36,9 @@ pub record State (n : ℕ) (w : Tally) (k : ℕ) (S : Bones) (name : Heap) (free
   pub reps : (x : ℕ) → T (marked free x) → T (S x) × (name x ≡ x)
   pub room : (x : ℕ) → getD attach x 0 + count n (marked free) * 70368744177664 ≤ 9007199254740992
 
--- a mark is taken off
-pub closed-set : (free : List ℕ) (u : ℕ) → length free ≡ 128 → u < 128 → Closed (marked free) (marked (set free u 0)) u
-unfolding marked
-closed-set free u long below x = ⊎-elim here there (decide (eqb x u))
-  where
-    here : T (eqb x u) → eqb (getD (set free u 0) x 0) 1 ≡ (eqb (getD free x 0) 1 && not (eqb x u))
-    here e =
-        ap (λ (y : ℕ). eqb (getD (set free u 0) y 0) 1) (eqb→eq x u e)
-        ∙ ap (λ (y : ℕ). eqb y 1) (getD-set-same free u 0 0 (omega arith))
-        ∙ shut (eqb (getD free x 0) 1) (eqb x u) e
-      where
-        shut : (a b : Bool) → T b → false ≡ (a && not b)
-        shut true true t = refl
-        shut false true t = refl
-        shut a false t = absurd t
-
-    there : T (not (eqb x u)) → eqb (getD (set free u 0) x 0) 1 ≡ (eqb (getD free x 0) 1 && not (eqb x u))
-    there e =
-        ap (λ (y : ℕ). eqb y 1) (getD-set-other free u x 0 0 (neqb→ne x u e))
-        ∙ stays (eqb (getD free x 0) 1) (eqb x u) e
-      where
-        stays : (a b : Bool) → T (not b) → a ≡ (a && not b)
-        stays true false t = refl
-        stays false b t = refl
-        stays true true t = absurd t
-
 cond-on : (t : Bool) (a b : ℕ) → (T t → a ≡ b) → cond t a 0 ≡ cond t b 0
 cond-on true a b f = f tt
 cond-on false a b f = refl
-
-pub zeros : (m x : ℕ) → _≡_ {A = ℕ} (getD (replicate m 0) x 0) 0
-zeros zero x = refl
-zeros (suc m) zero = refl
-zeros (suc m) (suc x) = zeros m x
 
 untaken-in : (S : Bones) (name : Heap) (free : Bones) (b : ℕ) → T (S b) → T (free (name b)) → T (untaken S name free b)
 unfolding untaken

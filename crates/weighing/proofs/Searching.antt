@@ -15,10 +15,11 @@ use Rattle.meaning.specs.Heap.{Heap, Lawful, pile, stands}
 use Rattle.meaning.proofs.Tests.{left-of}
 use Rattle.meaning.proofs.Sets.{some-same, last-or-below}
 use Rattle.meaning.proofs.Firm.{weight-same}
-use Rattle.weighing.specs.Side.{heapOf}
+use Rattle.pairs.specs.Side.{heapOf}
 use Rattle.weighing.specs.Search.{FirmPiles}
-use Rattle.weighing.specs.Scan.{untaken, LightSide, Filled, BlockNames, Kept}
-use Rattle.weighing.proofs.Merging.{kept-single}
+use Rattle.growing.specs.Blocks.{untaken, LightSide}
+use Rattle.growing.specs.Grow.{Known}
+use Rattle.weighing.specs.Scan.{Passed}
 
 untaken-inside : (S : Bones) (name : Heap) (free : Bones) (b : ℕ) → T (untaken S name free b) → T (S b)
 unfolding untaken
@@ -49,15 +50,15 @@ pub firm-all : (n : ℕ) (w : Tally) (k : ℕ) (h : Heap) (from p : ℕ) → n �
 unfolding FirmPiles
 firm-all n w k h from p l all q f t s = all q f (omega arith) s
 
--- single bones: every bone is a block
-pub single-names : (S : Bones) (old block : List ℕ) → ((b : ℕ) → T (S b) → b < 128) → Filled old block (λ b. b) 128 → BlockNames S (heapOf block)
-unfolding heapOf
-single-names S old block below filled =
+-- a pass goes on from what is known
+pub known-passed : {n : ℕ} {w : Tally} {k : ℕ} {S : Bones} {p : ℕ} {block free block′ free′ : List ℕ} {lit alone light one : Bool} {before weighs : ℕ} → Known n w k S p block free lit alone before → Passed n w k S p (heapOf block) block′ free′ light one weighs → Known n w k S p block′ free′ light one weighs
+known-passed known passed =
     record {
-      inside = λ b t. subst (λ (x : ℕ). T (S x)) (sym (filled .done b (below b t))) t;
-      own = λ b t. ap (heapOf block) (filled .done b (below b t));
+      long = passed .long;
+      free-long = passed .free-long;
+      free-rest = passed .free-rest;
+      names = passed .names;
+      kept = passed .kept (known .kept);
+      found = passed .found;
+      alone = passed .alone;
     }
-
-pub single-kept : (n : ℕ) (w : Tally) (k : ℕ) (S : Bones) (old block : List ℕ) → ((b : ℕ) → T (S b) → b < 128) → Filled old block (λ b. b) 128 → Kept n w k S (heapOf block)
-unfolding heapOf
-single-kept n w k S old block below filled = kept-single n w k S (heapOf block) (λ b t. filled .done b (below b t))

@@ -9,7 +9,7 @@ use Rattle.weighing.specs.declared.search.Split.{Split}
 use Rattle.meaning.specs.Tally.{Tally}
 use Rattle.meaning.specs.Firm.{firm}
 use Rattle.meaning.specs.Heap.{Heap, Cut, Lawful, pile, stands}
-use Rattle.weighing.specs.Side.{sideOf}
+use Rattle.pairs.specs.Side.{sideOf}
 
 -- the cut that a split states
 unfoldable pub cutOf : Split → Cut

@@ -1,29 +1,26 @@
 // One pass over a pile: its blocks are taken one by one, each time one with the greatest tally to those taken before, until those taken
 // weigh less than k against the others, or nothing is left to take.
-use crate::scan::bone;
 use crate::scan::free_all;
 use crate::scan::join;
 use crate::scan::one_block;
 use crate::scan::pick;
 use crate::scan::rename;
 use crate::scan::take;
+use growing::grow::Outcome;
+use pairs::numbers::bone;
 ghost use mathlib.Core.Path.{_≡_};
 ghost use mathlib.Core.Bool.{not};
 ghost use Prim.Native.Nat.{ℕ, _<_, _≤_};
 ghost use lib.Dec.{T};
 ghost use lib.ListN.{length};
 ghost use Rattle.meaning.specs.Heap.{pile, stands};
-ghost use Rattle.weighing.specs.Table.{held};
-ghost use Rattle.weighing.specs.Side.{heapOf};
-ghost use Rattle.weighing.specs.Scan.{marked, BlockNames, Passed};
+ghost use Rattle.pairs.specs.Table.{held};
+ghost use Rattle.pairs.specs.Side.{heapOf};
+ghost use Rattle.growing.specs.Blocks.{BlockNames};
+ghost use Rattle.pairs.specs.Marks.{marked};
+ghost use Rattle.weighing.specs.Scan.{Passed};
 
-// What a pass found: a light side and its weight, or that the pile is one block. Where neither, blocks were joined.
-pub(crate) struct Outcome {
-    pub(crate) light: bool,
-    pub(crate) one: bool,
-    pub(crate) weight: u64,
-}
-
+// What a pass finds: a light side and its weight, or that the pile is one block. Where neither, blocks were joined.
 pub(crate) fn pass(
     table: &[u32; 16384],
     names: &[u8; 128],

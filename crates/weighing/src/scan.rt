@@ -1,45 +1,24 @@
 // The parts of a scan: the tallies between a block that is taken and every block of the pile.
-use crate::table::tally_at;
+use pairs::numbers::bone;
+use pairs::table::tally_between;
 ghost use mathlib.Core.Path.{_≡_};
 ghost use mathlib.Core.Bool.{true, cond, not, _&&_};
 ghost use Prim.Native.Nat.{ℕ, _+_, _*_, _<_, _≤_, _^_};
 ghost use lib.Dec.{T, eqb, leb};
 ghost use lib.ListN.{length, getD, set};
 ghost use Rattle.meaning.specs.Heap.{pile};
-ghost use Rattle.weighing.specs.Table.{held};
-ghost use Rattle.weighing.specs.Side.{heapOf};
-ghost use Rattle.weighing.specs.Scan.{
-  blockAt,
-  BoneNames,
-  blockTally,
-  boneTally,
-  marked,
-  butFor,
-  Room,
-  Grown,
-  Filled,
-  Picked,
-  Looked,
-};
-
-pub(crate) fn wide(x: u32) -> u64
-    ensures { λ r. ⌜ (r ≡ x) × (r < 2 ^ 32) ⌝ }
-{
-    x as u64
-}
-
-pub(crate) fn bone(x: u8) -> usize
-    ensures { λ r. ⌜ (r ≡ x) × (r < 256) ⌝ }
-{
-    x as usize
-}
+ghost use Rattle.pairs.specs.Table.{held};
+ghost use Rattle.pairs.specs.Side.{heapOf};
+ghost use Rattle.growing.specs.Blocks.{butFor};
+ghost use Rattle.pairs.specs.Marks.{marked, Room, Grown, Filled};
+ghost use Rattle.weighing.specs.Scan.{blockAt, BoneNames, blockTally, boneTally, Picked, Looked};
 
 // The tally of two bones.
 fn tally(table: &[u32; 16384], i: usize, j: usize) -> u64
     requires { ⌜ (i < 128) × (j < 128) ⌝ }
     ensures { λ r. ⌜ (r ≡ held (now (table .entry)) i j) × (r < 2 ^ 32) ⌝ }
 {
-    wide(tally_at(table, i, j))
+    tally_between(table, i, j)
 }
 
 // The tally of bones b and c goes to the attachment of c's block, where c is in the pile and its block is not u, that of b.
@@ -265,16 +244,6 @@ pub(crate) fn one_block(names: &[u8; 128], block: &[u8; 128], n: usize, p: usize
         }
     }
     true
-}
-
-// Every bone is a block of its own.
-pub(crate) fn single(block: &mut [u8; 128])
-    requires { ⌜ length (now block) ≡ 128 ⌝ }
-    ensures { λ r. ⌜ Filled (now (block .entry)) (now (block .exit)) (λ b. b) 128 ⌝ }
-{
-    for b in 0..128 {
-        block[b] = b as u8;
-    }
 }
 
 // The block u is taken: it is free no more, and its tallies are added.

@@ -1,12 +1,12 @@
 // The search for a light split among the piles of a heap.
-use crate::grow::grow;
 use crate::moved::side_of;
 use crate::pass::pass;
-use crate::scan::bone;
+use growing::grow::grow;
+use pairs::numbers::bone;
 ghost use mathlib.Core.Path.{_≡_};
 ghost use Prim.Native.Nat.{min};
-ghost use Rattle.weighing.specs.Table.{held};
-ghost use Rattle.weighing.specs.Side.{heapOf};
+ghost use Rattle.pairs.specs.Table.{held};
+ghost use Rattle.pairs.specs.Side.{heapOf};
 ghost use Rattle.weighing.specs.Search.{Searched};
 
 // A split that was found: a pile, the side that moves out (bone b is the bit worth 2 to the power b mod 8 of byte b div 8) and its

@@ -1,5 +1,7 @@
-// The bench cases that concern the table and the weight of a side, run and printed. A line is a case: the refusal's number and place
-// (0 0 where the links are accepted), then the weight of one side of one pile by the table, which starts at nought.
+// The bench cases that concern the table, the weight of a side and the search, run and printed. A line is a case: the refusal's number and
+// place (0 0 where the links are accepted), then the weight of one side of one pile by the table, which starts at nought; in the lines
+// of the search 1, the pile, the weight and the first eight bones of a light split, or noughts where every pile is firm. Each of these
+// has one light split at most.
 use libc::STDOUT_FILENO;
 use meaning::Judged;
 ghost use mathlib.Core.Path.{_≡_};
@@ -12,6 +14,9 @@ fn main() {
     refused();
     many(2, false);
     many(128, true);
+    searched();
+    searched_many(2, false);
+    searched_many(128, true);
 }
 
 fn space() {
@@ -43,6 +48,31 @@ fn case(n: u64, k: u64, links: &[u8], names: &[u8; 128], name: u8, side: &[u8; 1
         STDOUT_FILENO,
         weighing::weigh(&table, names, n as usize, name, side),
     );
+    line();
+}
+
+// Whether there is a light split, as a number.
+fn one_if(light: bool) -> u64 {
+    if light { 1 } else { 0 }
+}
+
+fn wide(x: u8) -> u64 {
+    x as u64
+}
+
+fn seek(n: u64, k: u64, links: &[u8], names: &[u8; 128]) {
+    let mut table = [0u32; 16384];
+    say(weighing::fill(n, k, links, &mut table));
+    let split = weighing::search::search(&table, names, n as usize, k, 0);
+    let side = split.side;
+    space();
+    io::print_decimal(STDOUT_FILENO, one_if(split.light));
+    space();
+    io::print_decimal(STDOUT_FILENO, split.pile as u64);
+    space();
+    io::print_decimal(STDOUT_FILENO, split.weight);
+    space();
+    io::print_decimal(STDOUT_FILENO, wide(side[0]));
     line();
 }
 
@@ -186,4 +216,32 @@ fn many(n: u64, round: bool) {
     case(n, 65535, &links[..16384], &names, 0, &one);
     case(n, 65535, &links[..16384], &names, 0, &even);
     case(n, 65535, &links, &names, 0, &even);
+}
+
+// One bone; two without a link, and with tally 3 at k 3 and 4; a stray link to bone 0; the triangles, as one pile and as two; the wheel.
+fn searched() {
+    let names = one_pile();
+    seek(1, 7, b"", &names);
+    seek(2, 1, b"", &names);
+    seek(2, 3, b"\x00\x01\x00\x03", &names);
+    seek(2, 4, b"\x00\x01\x00\x03", &names);
+    seek(3, 2, b"\x00\x01\x00\x01\x01\x02\x00\x05", &names);
+    let links =
+        b"\x00\x01\x00\x01\x00\x02\x00\x01\x01\x02\x00\x01\x03\x04\x00\x01\x03\x05\x00\x01\x04\x05\x00\x01\x02\x03\x00\x01";
+    seek(6, 2, links, &names);
+    let parted = two_piles();
+    seek(6, 2, links, &parted);
+    seek(
+        5,
+        2,
+        b"\x00\x02\x00\x01\x00\x03\x00\x01\x00\x04\x00\x01\x01\x02\x00\x01\x01\x03\x00\x01\x01\x04\x00\x01",
+        &names,
+    );
+}
+
+// 4,096 links of tally 65,535 hold all bones together.
+fn searched_many(n: u64, round: bool) {
+    let links = list(round);
+    let names = one_pile();
+    seek(n, 65535, &links[..16384], &names);
 }

@@ -2,7 +2,7 @@
 use mathlib.Core.Path.{sym, _∙_}
 use native.Mathlib.Omega.{arith}
 use lib.ListN.{length}
-use Rattle.weighing.proofs.LinksBytes.{linksOf-short}
+use Rattle.pairs.proofs.LinksBytes.{linksOf-short}
 use Rattle.cutting.proofs.Carried.{filled-counted, filled-alike, checking-core, checking-stop, checked-alike, checked-refused}
 use borrow.Author.Needs.{needs}
 use Rattle.cutting.proofs.check.checking.Statement.{statement}

@@ -1,7 +1,11 @@
 -- `cutting::check::tell_piles` meets its contract. Assumes nothing.
-use mathlib.Core.Path.{ap₂}
-use Rattle.weighing.specs.Side.{heapOf}
-use Rattle.weighing.specs.Table.{held}
+use Prim.Native.Nat.{ℕ, min}
+use mathlib.Core.Path.{_≡_, _∙_, ap, ap₂}
+use native.Mathlib.Omega.{arith}
+use Rattle.meaning.specs.Heap.{piles}
+use Rattle.pairs.specs.Side.{heapOf}
+use Rattle.pairs.specs.Table.{held}
+use Rattle.heaps.specs.Names.{written}
 use Rattle.cutting.specs.declared.Answer.the-variants.{Gave}
 use Rattle.cutting.proofs.Finish.{searched-finished}
 use borrow.Author.Needs.{needs}
@@ -22,9 +26,11 @@ same-length c = search needs
 
 returns : tie.Need-returns
 returns c =
-    let a = c .before .before .before .before .before .before .before .args in (
-      ap₂ Gave (c .count-piles .ensures) (searched-finished (a .n) (held (a .table .now)) (a .k) (heapOf (a .names .now)) _ _ (c .before .before .before .before .before .before .before .pre .0) (c .before .before .before .before .before .search .ensures)),
-      c .before .before .before .write-names .ensures,
+    let a = c .before .before .before .before .before .before .before .args in
+    let h = heapOf (a .names .now) in
+    let all : min (a .n) 128 ≡ a .n = omega (arith, c .before .before .before .before .before .before .before .pre) in (
+      ap₂ Gave (c .count-piles .ensures ∙ ap (λ (m : ℕ). piles m h) all) (searched-finished (a .n) (held (a .table .now)) (a .k) h _ _ (c .before .before .before .before .before .before .before .pre) (c .before .before .before .before .before .search .ensures)),
+      c .before .before .before .write-names .ensures ∙ ap (λ (m : ℕ). written m h (a .labels .now)) all,
     )
 
 pub tell-piles-spec : {M : Type 1} → statement M

@@ -6,9 +6,12 @@ use mathlib.Core.List.{List}
 use native.Mathlib.Omega.{arith}
 use borrow.Author.Needs.{needs}
 use borrow.Author.Tests.{not-true, not-false}
-use Rattle.weighing.specs.Side.{heapOf}
-use Rattle.weighing.specs.Table.{held}
+use Rattle.pairs.specs.Side.{heapOf}
+use Rattle.pairs.specs.Table.{held}
 use Rattle.weighing.specs.Search.{cutOf as splitCut}
+use Rattle.heaps.specs.Record.{cutOf}
+use Rattle.heaps.proofs.Lawful.{narrow-entry}
+use Rattle.heaps.proofs.Parting.{parted-names}
 use Rattle.cutting.proofs.Going.{Found, searched-light, searched-none, Going, going-start, going-room, going-next, going-end}
 use Rattle.cutting.proofs.group.finish.Statement.{statement}
 use Rattle.cutting.proofs.group.finish.Tie as tie
@@ -51,7 +54,7 @@ write-requires : tie.Need-write-requires Inv-loop μ-loop
 write-requires c κs = search needs
 
 part-requires : tie.Need-part-requires Inv-loop μ-loop
-part-requires c κs = (c .before .before .before .before .before .before .before .before .before .before .before .pre .few-bones, c .before .before .before .before .before .before .before .before .before .loop .inv .names-long)
+part-requires c κs = search needs
 
 add-cuts : tie.Need-add-cuts Inv-loop μ-loop
 add-cuts c = omega (arith, room (c .before .before .before .before .before .before .before), c .before .before .before .before .before .before .before .before .before .before .before .before .pre .few-bones)
@@ -67,10 +70,11 @@ loop-again c =
     let s = c .before .before .before .before .before .before .before .before .before .before .before .before .before in
     let head = c .before .before .before .before .before .before .before .before .before .before .before .loop in
     let e = c .before .before .before .before .before .before .before .entry-of in
+    let new = parted-names (s .args .n) (head .names) (cutOf (e .result)) (s .pre .few-bones) (head .inv .names-long) (narrow-entry (e .result) (omega (arith, e .ensures .1))) (c .before .part .ensures) in
     subst (λ (x : List ℕ). Going (s .args .n) (held (s .args .table .now)) (s .args .k) (s .args .space .now) (s .args .given .cuts) (c .before .part .last .0) x (head .cuts + 1) (e .result .pile)) (sym (c .before .before .before .before .before .write .ensures))
     (going-next _ _ _ _ _ (s .pre .some-bones) (s .pre .room) _ _ _ _ (head .inv) (e .result) _ (e .ensures .1)
     (subst (Found (s .args .n) (held (s .args .table .now)) (s .args .k) (heapOf (head .names)) (head .from)) (sym (e .ensures .0)) (found (c .before .before .before .before .before .before .before .before)))
-    (c .before .part .ensures .0) (c .before .part .ensures .1))
+    (new .0) (new .1))
 
 pub finish-spec : {M : Type 1} → statement M
 finish-spec =

@@ -1,6 +1,10 @@
 -- `cutting::group::group_table` meets its contract. Assumes nothing.
-use mathlib.Core.Path.{refl, sym, _∙_}
-use Rattle.cutting.proofs.Parting.{heap-start}
+use mathlib.Core.Path.{_≡_, sym, _∙_}
+use Rattle.meaning.specs.Judge.{first}
+use Rattle.pairs.specs.Table.{held}
+use Rattle.heaps.specs.Rows.{recordRows}
+use Rattle.heaps.proofs.Lawful.{few-rows}
+use Rattle.heaps.proofs.Parting.{judged-names}
 use Rattle.cutting.proofs.Carried.{label-short, label-fits, space-short, space-fits, grouped-refused, grouped-accepted}
 use borrow.Author.Needs.{needs}
 use Rattle.cutting.proofs.group.group_table.Statement.{statement}
@@ -19,9 +23,11 @@ returns-2 : tie.Need-returns-2
 returns-2 c = grouped-refused _ _ _ _ _ _ 8 0 (label-fits _ _ _ (c .before .if1 .left) ∙ space-short _ _ _ (c .if2 .taken)) _
 
 judge-record-requires : tie.Need-judge-record-requires
-judge-record-requires c κs =
-    let s = c .before .before .before .before .before .before in
-    (s .pre .0, s .pre .1, refl, heap-start 128)
+judge-record-requires c κs = search needs
+
+-- the record's rows, tried among no more than 128 bones
+judged : (c : tie.After-judge-record) → let a = c .before .before .before .before .before .before .before .args in c .judge-record .result ≡ first (recordRows (a .n) (held (a .table .now)) (a .k) (a .entries .now))
+judged c = few-rows _ _ _ _ (c .before .before .before .before .before .before .before .pre .1) (c .judge-record .ensures .0)
 
 enum-told : tie.Need-enum-told
 enum-told c = search needs
@@ -29,9 +35,9 @@ enum-told c = search needs
 complete-requires : tie.Need-complete-requires
 complete-requires c κs =
     let s = c .before .before .before .before .before .before .before .before .before .before .before .before in
-    let r = c .before .before .before .before .before .judge-record .ensures in
     let accepted = c .before .before .before .enum-told .given .1 in
-    ((s .pre .0, s .pre .1, s .pre .2, c .before .before .before .before .before .before .before .before .if1 .left, c .before .before .before .before .before .before .before .if2 .left), (sym (r .judged) ∙ accepted, r .heap-left accepted, r .long))
+    let left = judged-names (s .args .n) (s .args .entries .now) _ (s .pre .1) accepted (c .before .before .before .before .before .judge-record .ensures .1) in
+    ((s .pre .0, s .pre .1, s .pre .2, c .before .before .before .before .before .before .before .if2 .left), (sym (judged (c .before .before .before .before .before)) ∙ accepted, left .0, left .1))
 
 enum-known-number : tie.Need-enum-known-number
 enum-known-number c = search needs
@@ -44,16 +50,15 @@ same-length-2 c = search needs
 
 returns-3 : tie.Need-returns-3
 returns-3 c =
-    let r = c .before .before .before .before .before .before .before .before .before .before .judge-record .ensures in
     let done = c .before .before .before .before .complete .ensures in
     grouped-accepted _ _ _ _ _ _ _
-    (label-fits _ _ _ (c .before .before .before .before .before .before .before .before .before .before .before .before .before .if1 .left) ∙ space-fits _ _ _ (c .before .before .before .before .before .before .before .before .before .before .before .before .if2 .left) ∙ sym (r .judged) ∙ c .before .before .before .before .before .before .before .before .enum-told .given .1)
+    (label-fits _ _ _ (c .before .before .before .before .before .before .before .before .before .before .before .before .before .if1 .left) ∙ space-fits _ _ _ (c .before .before .before .before .before .before .before .before .before .before .before .before .if2 .left) ∙ sym (judged (c .before .before .before .before .before .before .before .before .before .before)) ∙ c .before .before .before .before .before .before .before .before .enum-told .given .1)
     _ _ _ (done .0) (done .1 .0) (done .1 .1)
 
 returns-4 : tie.Need-returns-4
 returns-4 c =
     grouped-refused _ _ _ _ _ _ _ _
-    (label-fits _ _ _ (c .before .before .before .before .before .before .if1 .left) ∙ space-fits _ _ _ (c .before .before .before .before .before .if2 .left) ∙ sym (c .before .before .before .judge-record .ensures .judged) ∙ c .before .number .given .1) _
+    (label-fits _ _ _ (c .before .before .before .before .before .before .if1 .left) ∙ space-fits _ _ _ (c .before .before .before .before .before .if2 .left) ∙ sym (judged (c .before .before .before)) ∙ c .before .number .given .1) _
 
 pub group-table-spec : {M : Type 1} → statement M
 group-table-spec =

@@ -2,7 +2,7 @@
 use mathlib.Core.Path.{sym, _∙_}
 use native.Mathlib.Omega.{arith}
 use lib.ListN.{length}
-use Rattle.weighing.proofs.LinksBytes.{linksOf-short}
+use Rattle.pairs.proofs.LinksBytes.{linksOf-short}
 use Rattle.cutting.proofs.Carried.{filled-counted, filled-alike, grouping-core, grouping-stop, grouped-alike, grouped-refused}
 use borrow.Author.Needs.{needs}
 use Rattle.cutting.proofs.group.grouping.Statement.{statement}

@@ -2,7 +2,7 @@
 -- which fills it, and lent again, to be read, to `check_judged`, with the record and the label space. All that the proof knows of the two is that
 -- each meets its contract.
 -- Assumes nothing.
-use mathlib.Core.Path.{_≡_, refl, sym, _∙_, ap, subst}
+use mathlib.Core.Path.{_≡_, refl}
 use Prim.Native.Nat.{ℕ, _<_, _^_}
 use mathlib.Core.Bool.{true}
 use mathlib.Core.List.{List, [], _∷_}
@@ -44,21 +44,21 @@ use denote.Exit.{yes}
 use Rattle.meaning.specs.declared.Link.{Link}
 use Rattle.meaning.specs.declared.Judged.{Judged}
 use Rattle.meaning.specs.Judge.{first as first-of}
-use Rattle.weighing.specs.Links.{tableRows}
-use Rattle.weighing.specs.Table.{held, filled}
-use Rattle.weighing.proofs.LinksBytes.{Short}
-use Rattle.weighing.proofs.RecordsLink.{R, J, told, IsJudged, typed-judged, made-judged}
-use Rattle.weighing.proofs.RecordsCalls.{calls-to}
-use Rattle.weighing.proofs.RecordsRead.{Own}
-use Rattle.weighing.proofs.RecordsShort.{learns-short}
-use Rattle.weighing.proofs.RecordsTable.{Table}
-use Rattle.weighing.proofs.RecordsLocal.{tableTy, noughts, noughts-typed, lies-noughts, lies-room}
-use Rattle.weighing.proofs.RecordsFill.{FillRecords, calls-fill}
-use Rattle.weighing.proofs.records.fill_records.Symbol as fill-def
-use Rattle.weighing.proofs.records.fill_records.Symbol.{name as #fill-records}
-use Rattle.weighing.proofs.records.fill_records.Met as fill-thm
+use Rattle.pairs.specs.Links.{tableRows}
+use Rattle.pairs.specs.Table.{held, filled}
+use Rattle.lent.proofs.RecordsLink.{R, J, told, IsJudged, typed-judged, made-judged}
+use Rattle.lent.proofs.RecordsCalls.{calls-to}
+use Rattle.lent.proofs.RecordsRead.{Own}
+use Rattle.lent.proofs.RecordsShort.{learns-short}
+use Rattle.lent.proofs.RecordsTable.{Table}
+use Rattle.lent.proofs.RecordsLocal.{tableTy, noughts, noughts-typed, lies-noughts, lies-room}
+use Rattle.lent.proofs.RecordsFill.{FillRecords, calls-fill}
+use Rattle.lent.proofs.records.fill_records.Symbol as fill-def
+use Rattle.lent.proofs.records.fill_records.Symbol.{name as #fill-records}
+use Rattle.lent.proofs.records.fill_records.Met as fill-thm
 use Rattle.cutting.specs.declared.Answer.{Answer}
-use Rattle.cutting.specs.Rows.{labelRow, recordRows}
+use Rattle.heaps.specs.Rows.{recordRows}
+use Rattle.cutting.specs.Rows.{labelRow}
 use Rattle.cutting.specs.Calls.{Checked, Checking}
 use Rattle.cutting.proofs.Judged.{judged-few, judged-checking}
 use Rattle.cutting.proofs.Answer as Ans
@@ -183,5 +183,5 @@ checking-records-spec 𝓤 H 𝓜 𝓖 𝓡 =
     (λ κs. (uint-vals w64, (uint-vals w64, (slice-vals, (slice-vals, (slice-vals, tt)))))) (λ κs. (uint-tells w64, (uint-tells w64, (shr-slice-tells (named 0) (κs .0) R, (shr-slice-tells (named 1) (κs .1 .0) u8, (mut-slice-tells (named 2) (κs .1 .1 .0) u8, tt))))))
     (λ κs qs bounds a g are. via 𝓤 _ (fst∗ 𝓤 _ (emp 𝓤)) (walk 𝓤 H (𝓖 .A) W (𝓜 .mem) (𝓡 .run) (κs .0) (κs .1 .0) (κs .1 .1 .0) (qs .0) (qs .1 .0) (qs .1 .1 .0) (a .0) (a .1 .0) (a .1 .1 .0) (a .1 .1 .1 .0) (a .1 .1 .1 .1 .0)
     (are .0 .1) (are .1 .0 .1) (are .1 .1 .0 .0 .1) (are .1 .1 .1 .0 .0 .1) (are .1 .1 .1 .1 .0 .0 .1) 𝓣
-    (cited 𝓤 H (FillRecords 𝓤 H (𝓖 .A) (𝓜 .mem) (𝓡 .run)) 𝓜 𝓡 code.env #fill-records fill-def.routine code.calls-weighing·records·fill-records (fill-thm.met 𝓤 H 𝓜 𝓖 𝓡))
+    (cited 𝓤 H (FillRecords 𝓤 H (𝓖 .A) (𝓜 .mem) (𝓡 .run)) 𝓜 𝓡 code.env #fill-records fill-def.routine code.calls-lent·records·fill-records (fill-thm.met 𝓤 H 𝓜 𝓖 𝓡))
     (cited 𝓤 H (Core 𝓤 H (𝓖 .A) (𝓜 .mem) (𝓡 .run)) 𝓜 𝓡 code.env #check-judged core-def.routine code.calls-cutting·records·check-judged (core-thm.met 𝓤 H 𝓜 𝓖 𝓡))))))

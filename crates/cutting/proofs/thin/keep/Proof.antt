@@ -2,13 +2,12 @@
 use Prim.Native.Nat.{_/_, _-_}
 use native.Mathlib.Omega.{arith}
 use lib.ListN.{length}
-use Rattle.weighing.specs.Side.{heapOf}
 use Rattle.cutting.proofs.Keeping.{Keeping, keeping-start, keeping-proper, keeping-next, keeping-end}
 use Rattle.cutting.proofs.thin.keep.Statement.{statement}
 use Rattle.cutting.proofs.thin.keep.Tie as tie
 
 abbrev Inv-loop : tie.InvT-loop
-Inv-loop names links space₀ count kept₀ i₀ space kept i = Keeping (heapOf names) links space₀ space kept i
+Inv-loop names links space₀ count kept₀ i₀ space kept i = Keeping names links space₀ space kept i
 
 abbrev μ-loop : tie.MeasureT-loop
 μ-loop names links space₀ count kept₀ i₀ space kept i = length links / 4 - i

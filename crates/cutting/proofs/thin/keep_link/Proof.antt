@@ -5,8 +5,9 @@ use native.Mathlib.Omega.{arith}
 use lib.ListN.{length, take, drop, length-take, length-drop}
 use lib.Seq.{paste}
 use borrow.Author.Tests.{not-true, not-false}
-use Rattle.weighing.specs.Links.{linkAt}
-use Rattle.cutting.proofs.Keeping.{keeps-not, keeps-it}
+use Rattle.pairs.specs.Links.{linkAt}
+use Rattle.heaps.proofs.Entries.{paste-fits}
+use Rattle.cutting.proofs.Keeping.{keeps-not, keeps-it, same-bones}
 use borrow.Author.Needs.{needs}
 use Rattle.cutting.proofs.thin.keep_link.Statement.{statement}
 use Rattle.cutting.proofs.thin.keep_link.Tie as tie
@@ -29,7 +30,9 @@ same-pile-requires c κs = let s = c .before .before .before .before in (s .pre 
 
 returns : tie.Need-returns
 unfolding linkAt
-returns c = keeps-not _ _ _ _ _ (sym (c .before .same-pile .ensures) ∙ not-true _ (c .if1 .taken))
+returns c =
+    let p = c .before .before .before .before .before .before .pre .0 in
+    keeps-not _ _ _ _ (same-bones _ _ (p .1) (p .2) ∙ sym (c .before .same-pile .ensures) ∙ not-true _ (c .if1 .taken))
 
 add-copy : tie.Need-add-copy
 add-copy c = search needs
@@ -62,8 +65,9 @@ returns-2 c =
     let rest = drop (a .i * 4) (a .links .now) in
     let four : a .i * 4 + 4 - a .i * 4 ≡ 4 = omega arith in
     let long : length (take 4 rest) ≡ 4 = simp (length-take, length-drop) (omega arith) in
-    keeps-it _ _ _ _ _ _ (sym (c .before .before .before .before .before .before .same-pile .ensures) ∙ not-false _ (c .before .before .before .before .before .if1 .left))
+    keeps-it _ _ _ _ _ (same-bones _ _ (c .before .before .before .before .before .before .before .before .before .before .before .pre .0 .1) (c .before .before .before .before .before .before .before .before .before .before .before .pre .0 .2) ∙ sym (c .before .before .before .before .before .before .same-pile .ensures) ∙ not-false _ (c .before .before .before .before .before .if1 .left))
     (c .before .before .copy .ensures
+    ∙ paste-fits (a .space .now) (a .kept * 4) (take (a .i * 4 + 4 - a .i * 4) rest) (omega (arith, ap (λ (m : ℕ). length (take m rest)) four, long, c .before .before .before .before .before .before .before .before .before .before .before .pre .1))
     ∙ ap (λ (m : ℕ). paste (a .space .now) (a .kept * 4) (take m rest) (length (take m rest))) four
     ∙ ap (λ (m : ℕ). paste (a .space .now) (a .kept * 4) (take 4 rest) m) long)
 

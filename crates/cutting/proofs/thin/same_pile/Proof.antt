@@ -1,6 +1,6 @@
 -- `cutting::thin::same_pile` meets its contract. Assumes nothing.
 use mathlib.Core.Path.{refl}
-use Rattle.weighing.specs.Side.{heapOf}
+use Rattle.pairs.specs.Side.{heapOf}
 use borrow.Author.Needs.{needs}
 use Rattle.cutting.proofs.thin.same_pile.Statement.{statement}
 use Rattle.cutting.proofs.thin.same_pile.Tie as tie

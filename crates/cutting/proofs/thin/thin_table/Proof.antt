@@ -1,11 +1,9 @@
 -- `cutting::thin::thin_table` meets its contract. Assumes nothing.
-use mathlib.Core.Path.{refl}
 use native.Mathlib.Omega.{arith}
-use Rattle.weighing.specs.Links.{linksOf}
-use Rattle.weighing.specs.Side.{heapOf}
-use Rattle.weighing.proofs.LinksBytes.{length-linksOf}
-use Rattle.weighing.proofs.LinksRows.{links-accepted, links-proper, propers-more}
-use Rattle.cutting.proofs.Parting.{heap-start}
+use Rattle.pairs.specs.Links.{linksOf}
+use Rattle.pairs.proofs.LinksBytes.{length-linksOf}
+use Rattle.pairs.proofs.LinksRows.{links-accepted, links-proper, propers-more}
+use Rattle.cutting.specs.Calls.{linkBytes}
 use Rattle.cutting.proofs.Keeping.{kept-same, kept-most, links-short, links-fit, thins-refused, thins-accepted}
 use borrow.Author.Needs.{needs}
 use Rattle.cutting.proofs.thin.thin_table.Statement.{statement}
@@ -14,10 +12,10 @@ use Rattle.cutting.proofs.thin.thin_table.Tie as tie
 returns : tie.Need-returns
 returns c =
     let a = c .before .before .before .args in
-    thins-refused _ _ _ _ _ _ 14 0 (links-short _ _ (omega (arith, c .if1 .taken, length-linksOf (a .links .now))))
+    thins-refused linkBytes _ _ _ _ _ _ 14 0 (links-short _ _ (omega (arith, c .if1 .taken, length-linksOf (a .links .now))))
 
 name-groups-requires : tie.Need-name-groups-requires
-name-groups-requires c κs = let p = c .before .before .before .before .pre in (p .0, p .1, p .2, heap-start 128, refl)
+name-groups-requires c κs = let p = c .before .before .before .before .pre in (p .0, p .1, p .2)
 
 keep-requires : tie.Need-keep-requires
 keep-requires c κs =
@@ -28,7 +26,7 @@ keep-requires c κs =
 cast-t17 : tie.Need-cast-t17
 cast-t17 c =
     let s = c .before .before .before .before .before .before .before .before .before .before in
-    omega (arith, c .before .before .keep .ensures .0, kept-most (heapOf (c .before .before .before .before .before .name-groups .last .1 .1 .1 .0)) (linksOf (s .args .links .now)), length-linksOf (s .args .links .now), s .pre .3)
+    omega (arith, c .before .before .keep .ensures .0, kept-most (c .before .before .before .before .before .name-groups .last .1 .1 .1 .0) (linksOf (s .args .links .now)), length-linksOf (s .args .links .now), s .pre .3)
 
 same-length : tie.Need-same-length
 same-length c = search needs
@@ -37,9 +35,9 @@ returns-2 : tie.Need-returns-2
 returns-2 c =
     let s = c .before .before .before .before .before .before .before .before .before .before in
     let links = linksOf (s .args .links .now) in
-    thins-accepted _ _ _ _ _ _ (heapOf (c .before .before .before .before .before .name-groups .last .1 .1 .1 .0)) _ _
+    thins-accepted linkBytes _ _ _ _ _ _ (c .before .before .before .before .before .name-groups .last .1 .1 .1 .0) _ _
     (links-fit _ _ (omega (arith, c .before .before .before .before .before .before .before .if1 .left, length-linksOf (s .args .links .now))))
-    (kept-same (s .args .n) _ _ links (c .before .before .before .before .before .name-groups .ensures) (links-accepted (s .args .n) 0 links (s .pre .4)))
+    (kept-same (s .args .n) _ _ _ links (s .pre .1) (c .before .before .before .before .before .name-groups .ensures) (links-accepted (s .args .n) 0 links (s .pre .4)))
     (c .before .before .keep .ensures .0) (c .before .before .keep .ensures .1)
 
 pub thin-table-spec : {M : Type 1} → statement M

@@ -3,9 +3,10 @@ use Prim.Native.Nat.{_/_}
 use mathlib.Core.Path.{sym, _∙_}
 use native.Mathlib.Omega.{arith}
 use lib.ListN.{length}
-use Rattle.weighing.specs.Links.{linksOf}
-use Rattle.weighing.proofs.LinksBytes.{length-linksOf, linksOf-short}
-use Rattle.weighing.proofs.LinksRows.{table-counted, table-proper, links-proper}
+use Rattle.pairs.specs.Links.{linksOf}
+use Rattle.pairs.proofs.LinksBytes.{length-linksOf, linksOf-short}
+use Rattle.pairs.proofs.LinksRows.{table-counted, table-proper, links-proper}
+use Rattle.cutting.specs.Calls.{linkBytes}
 use Rattle.cutting.proofs.Carried.{filled-alike}
 use Rattle.cutting.proofs.Keeping.{thinning-core, thinning-stop, thins-alike, thins-refused}
 use borrow.Author.Needs.{needs}
@@ -39,12 +40,12 @@ returns c =
     let judged = c .before .before .before .before .before .before .before .fill .ensures .0 in
     let short = linksOf-short (a .links .now) (λ i. omega (arith, c .before .before .before .before .before .before .before .before .before .before .shared-slice-known .given i)) in
     let alike = filled-alike (a .n) (a .k) _ _ _ judged accepted _ (c .before .before .before .before .before .before .before .fill .ensures .1) short in
-    thins-alike (a .n) _ _ alike (a .k) _ _ _ _ _ _ (thinning-core (a .n) (a .k) _ _ (length (a .space .now) / 4) (sym judged ∙ accepted)) (c .before .before .thin-table .ensures)
+    thins-alike linkBytes (a .n) _ _ alike (a .k) _ _ _ _ _ _ (thinning-core (a .n) (a .k) _ _ (length (a .space .now) / 4) (sym judged ∙ accepted)) (c .before .before .thin-table .ensures)
 
 returns-2 : tie.Need-returns-2
 returns-2 c =
     let a = c .before .before .before .before .before .before .before .args in
-    thins-refused _ _ _ _ _ _ _ _ (thinning-stop (a .n) (a .k) _ _ (length (a .space .now) / 4) _ _ (sym (c .before .before .before .fill .ensures .0) ∙ c .before .number .given .1))
+    thins-refused linkBytes _ _ _ _ _ _ _ _ (thinning-stop (a .n) (a .k) _ _ (length (a .space .now) / 4) _ _ (sym (c .before .before .before .fill .ensures .0) ∙ c .before .number .given .1))
 
 pub thinning-spec : {M : Type 1} → statement M
 thinning-spec =

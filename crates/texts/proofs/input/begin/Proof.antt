@@ -1,7 +1,7 @@
 -- `input::begin` meets its contract. Assumes nothing.
 use mathlib.Core.Path.{sym}
 use borrow.Author.Needs.{needs}
-use Rattle.weighing.proofs.RecordsRows.{firstOf-refused}
+use Rattle.lent.proofs.RecordsRows.{firstOf-refused}
 use Rattle.texts.proofs.WritesRows.{begun-refused, begun-after}
 use Rattle.texts.proofs.input.begin.Statement.{statement}
 use Rattle.texts.proofs.input.begin.Tie as tie

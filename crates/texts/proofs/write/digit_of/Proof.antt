@@ -1,7 +1,7 @@
 -- `write::digit_of` meets its contract. Assumes nothing.
 use borrow.Author.Needs.{needs}
 use borrow.Author.Tests.{lt-ltb, le-ltb}
-use Rattle.texts.specs.Frame.{digit}
+use Rattle.reading.specs.Frame.{digit}
 use Rattle.texts.proofs.write.digit_of.Statement.{statement}
 use Rattle.texts.proofs.write.digit_of.Tie as tie
 

@@ -4,7 +4,7 @@ use native.Mathlib.Omega.{arith}
 use lib.ListN.{set, length-set}
 use mathlib.Core.Path.{_∙_, ap₂}
 use Prim.Native.Nat.{ℕ, _+_}
-use Rattle.texts.specs.Frame.{hex}
+use Rattle.reading.specs.Frame.{hex}
 use Rattle.texts.proofs.Writes.{over-two}
 use Rattle.texts.proofs.write.put_byte.Statement.{statement}
 use Rattle.texts.proofs.write.put_byte.Tie as tie

@@ -7,9 +7,9 @@ use native.Mathlib.Omega.{arith}
 use borrow.Author.Needs.{needs}
 use lib.ListN.{length, take, getD}
 use lib.Seq.{take-all}
-use Rattle.texts.specs.Frame.{byteSum, hex}
+use Rattle.reading.specs.Frame.{byteSum, hex}
 use Rattle.texts.specs.Writing.{over}
-use Rattle.texts.proofs.Frames.{sum-snoc}
+use Rattle.reading.proofs.Frames.{sum-snoc}
 use Rattle.texts.proofs.Writes.{over-nil, length-over, next-hex, next-sum}
 use Rattle.texts.proofs.write.put_bytes.Statement.{statement}
 use Rattle.texts.proofs.write.put_bytes.Tie as tie

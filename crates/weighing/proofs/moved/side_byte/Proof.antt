@@ -6,8 +6,9 @@ use native.Mathlib.Nat.{add-zero}
 use native.Mathlib.Omega.{arith}
 use borrow.Author.Needs.{needs}
 use Rattle.meaning.specs.Heap.{pile}
-use Rattle.weighing.specs.Side.{heapOf}
-use Rattle.weighing.specs.Scan.{byteOf, bitOf, marked}
+use Rattle.pairs.specs.Side.{heapOf}
+use Rattle.pairs.specs.Marks.{marked}
+use Rattle.weighing.specs.Scan.{byteOf, bitOf}
 use Rattle.weighing.proofs.moved.side_byte.Statement.{statement}
 use Rattle.weighing.proofs.moved.side_byte.Tie as tie
 

@@ -10,10 +10,12 @@ use lib.ListN.{getD, set, replicate}
 use Rattle.meaning.specs.Count.{Bones, count}
 use Rattle.meaning.specs.Heap.{pile, stands}
 use Rattle.meaning.proofs.Heaps.{pile-bone}
-use Rattle.weighing.specs.Table.{held}
-use Rattle.weighing.specs.Side.{heapOf}
-use Rattle.weighing.specs.Scan.{inBlock, cross, marked, Grown, Picked, Passed, butFor}
-use Rattle.weighing.proofs.TableHeld.{held-symmetric}
+use Rattle.pairs.specs.Table.{held}
+use Rattle.pairs.specs.Side.{heapOf}
+use Rattle.growing.specs.Blocks.{inBlock, cross, butFor}
+use Rattle.pairs.specs.Marks.{marked, Grown}
+use Rattle.weighing.specs.Scan.{Picked, Passed}
+use Rattle.pairs.proofs.TableHeld.{held-symmetric}
 use Rattle.weighing.proofs.Scanning.{State}
 use Rattle.weighing.proofs.Passing.{Given, Pass, name-small, state-room, state-most, start-room, start-state, pass-start, passed-alone, passed-light, next-state, next-count, pass-next, passed-joined}
 use Rattle.weighing.proofs.pass.pass.Statement.{statement}

@@ -7,10 +7,11 @@ use native.Mathlib.Omega.{arith}
 use Rattle.meaning.specs.Count.{sum}
 use Rattle.meaning.specs.Heap.{pile}
 use Rattle.meaning.proofs.Sums.{sum-ext}
-use Rattle.weighing.specs.Table.{held}
-use Rattle.weighing.specs.Side.{heapOf}
-use Rattle.weighing.specs.Scan.{inBlock, reaches, cross, butFor, Grown}
-use Rattle.weighing.proofs.Attach.{grown-start, grown-next, grown-end, grown-as, room-left, cross-rows, butFor-sum, butFor-cond, butFor-same}
+use Rattle.pairs.specs.Table.{held}
+use Rattle.pairs.specs.Side.{heapOf}
+use Rattle.growing.specs.Blocks.{inBlock, reaches, cross, butFor}
+use Rattle.pairs.specs.Marks.{Grown}
+use Rattle.growing.proofs.Attach.{grown-start, grown-next, grown-end, grown-as, room-left, cross-rows, butFor-sum, butFor-cond, butFor-same}
 use native.Mathlib.Nat.{le-refl}
 use Rattle.weighing.proofs.scan.add_block.Statement.{statement}
 use Rattle.weighing.proofs.scan.add_block.Tie as tie

@@ -6,10 +6,11 @@ use native.Mathlib.Nat.{le-refl}
 use native.Mathlib.Omega.{arith}
 use Rattle.meaning.specs.Count.{sum}
 use Rattle.meaning.specs.Heap.{pile}
-use Rattle.weighing.specs.Table.{held}
-use Rattle.weighing.specs.Side.{heapOf}
-use Rattle.weighing.specs.Scan.{inBlock, reaches, butFor, Grown}
-use Rattle.weighing.proofs.Attach.{grown-start, grown-next, grown-end, grown-as, room-left, butFor-sum}
+use Rattle.pairs.specs.Table.{held}
+use Rattle.pairs.specs.Side.{heapOf}
+use Rattle.growing.specs.Blocks.{inBlock, reaches, butFor}
+use Rattle.pairs.specs.Marks.{Grown}
+use Rattle.growing.proofs.Attach.{grown-start, grown-next, grown-end, grown-as, room-left, butFor-sum}
 use Rattle.weighing.proofs.scan.add_bone.Statement.{statement}
 use Rattle.weighing.proofs.scan.add_bone.Tie as tie
 

@@ -4,11 +4,12 @@ use mathlib.Core.Path.{sym, _∙_}
 use borrow.Author.Needs.{needs}
 use lib.Dec.{not-T}
 use Rattle.meaning.specs.Heap.{pile}
-use Rattle.weighing.specs.Side.{heapOf}
-use Rattle.weighing.specs.Scan.{inBlock, butFor, boneTally}
+use Rattle.pairs.specs.Side.{heapOf}
+use Rattle.growing.specs.Blocks.{inBlock, butFor}
+use Rattle.weighing.specs.Scan.{boneTally}
 use Rattle.meaning.proofs.Heaps.{pile-intro, pile-name}
 use Rattle.weighing.proofs.Blocks.{block-in, block-of, block-name}
-use Rattle.weighing.proofs.Attach.{grown-if, grown-none}
+use Rattle.growing.proofs.Attach.{grown-if, grown-none}
 use Rattle.weighing.proofs.scan.add_member.Statement.{statement}
 use Rattle.weighing.proofs.scan.add_member.Tie as tie
 

@@ -12,10 +12,11 @@ use lib.ListN.{length, getD, set}
 use Rattle.meaning.specs.Heap.{pile}
 use Rattle.meaning.proofs.Tests.{both, left-of, right-of, ne→neqb, neqb→ne}
 use Rattle.meaning.proofs.Heaps.{pile-intro, pile-name}
-use Rattle.weighing.specs.Side.{heapOf}
-use Rattle.weighing.specs.Scan.{inBlock, butFor, Grown}
+use Rattle.pairs.specs.Side.{heapOf}
+use Rattle.growing.specs.Blocks.{inBlock, butFor}
+use Rattle.pairs.specs.Marks.{Grown}
 use Rattle.weighing.proofs.Blocks.{block-in, block-of, block-name}
-use Rattle.weighing.proofs.Attach.{grown-at, grown-none, grown-as, butFor-test}
+use Rattle.growing.proofs.Attach.{grown-at, grown-none, grown-as, butFor-test}
 use Rattle.weighing.proofs.scan.add_pair.Statement.{statement}
 use Rattle.weighing.proofs.scan.add_pair.Tie as tie
 

@@ -10,7 +10,7 @@ use lib.Dec.{T, eqb, eqb→eq}
 use Rattle.meaning.specs.Heap.{pile}
 use Rattle.meaning.proofs.Tests.{taut, so, _⊃_, fails}
 use Rattle.meaning.proofs.Heaps.{pile-bone}
-use Rattle.weighing.specs.Side.{heapOf}
+use Rattle.pairs.specs.Side.{heapOf}
 use Rattle.weighing.proofs.scan.one_block.Statement.{statement}
 use Rattle.weighing.proofs.scan.one_block.Tie as tie
 

@@ -3,7 +3,8 @@
 use Prim.Native.Nat.{ℕ, zero-le, _-_, _≤_}
 use mathlib.Core.Path.{subst}
 use native.Mathlib.Omega.{arith}
-use Rattle.weighing.specs.Scan.{marked, Looked, Picked}
+use Rattle.pairs.specs.Marks.{marked}
+use Rattle.weighing.specs.Scan.{Looked, Picked}
 use Rattle.weighing.proofs.Picking.{looked-start, picked-most}
 use Rattle.weighing.proofs.scan.pick.Statement.{statement}
 use Rattle.weighing.proofs.scan.pick.Tie as tie

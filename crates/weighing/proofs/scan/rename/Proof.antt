@@ -5,9 +5,9 @@ use mathlib.Core.Path.{_∙_, ap}
 use mathlib.Core.Bool.{cond}
 use native.Mathlib.Omega.{arith}
 use Rattle.meaning.specs.Heap.{pile}
-use Rattle.weighing.specs.Side.{heapOf}
-use Rattle.weighing.specs.Scan.{Filled}
-use Rattle.weighing.proofs.Filling.{filled-start, filled-next, filled-end}
+use Rattle.pairs.specs.Side.{heapOf}
+use Rattle.pairs.specs.Marks.{Filled}
+use Rattle.pairs.proofs.Filling.{filled-start, filled-next, filled-end}
 use Rattle.weighing.proofs.scan.rename.Statement.{statement}
 use Rattle.weighing.proofs.scan.rename.Tie as tie
 

@@ -7,7 +7,7 @@ use lib.Dec.{eqb, not-T}
 use Rattle.meaning.specs.Heap.{pile}
 use Rattle.meaning.proofs.Tests.{both, left-of, right-of, is-true, is-false, ne→neqb, neqb→ne}
 use Rattle.meaning.proofs.Heaps.{pile-intro, pile-name}
-use Rattle.weighing.specs.Side.{heapOf}
+use Rattle.pairs.specs.Side.{heapOf}
 use Rattle.weighing.proofs.scan.strays.Statement.{statement}
 use Rattle.weighing.proofs.scan.strays.Tie as tie
 

@@ -15,22 +15,23 @@ use Rattle.meaning.specs.Firm.{firm}
 use Rattle.meaning.specs.Heap.{Heap, pile, stands}
 use Rattle.meaning.proofs.Heaps.{pile-intro, pile-bone, pile-name}
 use Rattle.weighing.specs.declared.search.Split.{Split}
-use Rattle.weighing.specs.Table.{held}
-use Rattle.weighing.specs.Side.{heapOf, sideOf}
+use Rattle.pairs.specs.Table.{held}
+use Rattle.pairs.specs.Side.{heapOf, sideOf}
 use Rattle.weighing.specs.Search.{cutOf, FirmPiles, Searched}
-use Rattle.weighing.specs.Scan.{marked, blocks}
-use Rattle.weighing.specs.Grow.{Known}
-use Rattle.weighing.proofs.Merging.{kept-one}
-use Rattle.weighing.proofs.Scanning.{zeros}
-use Rattle.weighing.proofs.Searching.{lawful-side, firm-none, firm-more, firm-all}
-use Rattle.weighing.proofs.GrowEnds.{known-passed}
+use Rattle.growing.specs.Blocks.{blocks}
+use Rattle.pairs.specs.Marks.{marked}
+use Rattle.growing.specs.Grow.{Known}
+use Rattle.growing.proofs.Merging.{kept-one}
+use Rattle.growing.proofs.Seen.{seen-intro}
+use Rattle.pairs.proofs.Filling.{zeros}
+use Rattle.weighing.proofs.Searching.{known-passed, lawful-side, firm-none, firm-more, firm-all}
 use Rattle.weighing.proofs.search.search.Statement.{statement}
 use Rattle.weighing.proofs.search.search.Tie as tie
 use Rattle.weighing.proofs.search.search.Reads as reads
 use Rattle.weighing.proofs.search.search.Lts as lts
 use Rattle.weighing.proofs.pass.pass.Reads as pass-reads
-use Rattle.weighing.proofs.scan.bone.Reads as bone-reads
-use Rattle.weighing.proofs.grow.grow.Reads as grow-reads
+use Rattle.pairs.proofs.numbers.bone.Reads as bone-reads
+use Rattle.growing.proofs.grow.grow.Reads as grow-reads
 use Rattle.weighing.proofs.search.at_most.Reads as at-most-reads
 use Rattle.weighing.proofs.moved.side_of.Reads as side-of-reads
 
@@ -48,10 +49,7 @@ abbrev μ-loop : tie.MeasureT-loop
 
 abbrev Inv-piles : tie.InvT-piles
 Inv-piles table names n k from bones block₀ free₀ found₀ p₀ block free found p =
-    (length block ≡ 128)
-    × (length free ≡ 128)
-    × ((x : ℕ) → bones ≤ x → T (not (marked free x)))
-    × (found ≡ found₀)
+    (found ≡ found₀)
     × (from ≤ p)
     × FirmPiles bones (held table) k (heapOf names) from p
 
@@ -61,14 +59,8 @@ abbrev μ-piles : tie.MeasureT-piles
 at-most-requires : tie.Need-at-most-requires Inv-loop μ-loop Inv-piles μ-piles
 at-most-requires c κs = tt
 
--- at first nothing is marked
-unmarked : (x : ℕ) → T (not (marked (replicate 128 0) x))
-unfolding marked
-unmarked x = subst (λ (y : ℕ). T (not (eqb y 1))) (sym (zeros 128 x)) tt
-
 piles-holds : tie.Need-piles-holds Inv-loop μ-loop Inv-piles μ-piles
-unfolding marked
-piles-holds c = (refl, refl, λ x h. unmarked x, refl, le-refl _, firm-none _ _ _ _ _)
+piles-holds c = (refl, le-refl _, firm-none _ _ _ _ _)
 
 element-copy-out-bone : tie.Need-element-copy-out-bone Inv-loop μ-loop Inv-piles μ-piles
 element-copy-out-bone c = omega (arith, c .before .before .at-most .ensures)
@@ -84,12 +76,18 @@ standing c =
     (sym (c .before .bone .ensures .0) ∙ c .if1 .taken)
 
 grow-requires : tie.Need-grow-requires Inv-loop μ-loop Inv-piles μ-piles
-grow-requires c κs =
-    let i = c .before .before .before .before .before .before .piles .inv in
-    ((omega (arith, c .before .before .before .before .before .before .before .at-most .ensures), i .0, i .1), (i .2, standing (c .before .before)))
+grow-requires c κs = tt
 
 loop-holds : tie.Need-loop-holds Inv-loop μ-loop Inv-piles μ-piles
-loop-holds c = (refl, c .grow .ensures)
+unfolding heapOf
+loop-holds c =
+    let s = c .before .before .before in
+    let bones = s .before .before .before .before .before .at-most in (
+      refl,
+      c .grow .ensures .0
+          (seen-intro (bones .result) (heapOf (s .before .before .before .before .before .before .args .names .now)) (s .before .before .before .before .piles .p) (omega (arith, bones .ensures)) (s .before .before .before .piles-test .taken)
+          (sym (s .before .bone .ensures .0) ∙ s .if1 .taken)),
+    )
 
 side-of-requires : tie.Need-side-of-requires Inv-loop μ-loop Inv-piles μ-piles
 side-of-requires c κs = (
@@ -140,20 +138,14 @@ piles-again c =
     ⊎-elim
     (λ w.
     let r = w .4 .inv .1 in (
-      subst (λ (l : List ℕ). length l ≡ 128) (sym (w .7)) (r .long),
-      subst (λ (l : List ℕ). length l ≡ 128) (sym (w .8)) (r .free-long),
-      (λ x h. subst (λ (l : List ℕ). T (not (marked l x))) (sym (w .8)) (r .free-rest x h)),
-      w .9 ∙ w .4 .inv .0 ∙ i .3,
-      omega (arith, i .4),
-      firm-more _ _ _ _ _ _ (i .5) (λ s. kept-one _ _ _ _ _ _ (r .alone (w .5 .left) (w .6 .taken)) (r .kept)),
+      w .9 ∙ w .4 .inv .0 ∙ i .0,
+      omega (arith, i .1),
+      firm-more _ _ _ _ _ _ (i .2) (λ s. kept-one _ _ _ _ _ _ (r .alone (w .5 .left) (w .6 .taken)) (r .kept)),
     ))
     (λ w. (
-      subst (λ (l : List ℕ). length l ≡ 128) (sym (w .1)) (i .0),
-      subst (λ (l : List ℕ). length l ≡ 128) (sym (w .2)) (i .1),
-      (λ x h. subst (λ (l : List ℕ). T (not (marked l x))) (sym (w .2)) (i .2 x h)),
-      w .3 ∙ i .3,
-      omega (arith, i .4),
-      firm-more _ _ _ _ _ _ (i .5) (λ s. absurd (w .0 .left (named-so c s))),
+      w .3 ∙ i .0,
+      omega (arith, i .1),
+      firm-more _ _ _ _ _ _ (i .2) (λ s. absurd (w .0 .left (named-so c s))),
     ))
     (c .if1 .came)
 
@@ -163,8 +155,8 @@ returns c =
     let a = c .before .before .before .args in
     let i = c .before .piles .inv in
     subst (λ (m : ℕ). Searched m (held (a .table .now)) (a .k) (heapOf (a .names .now)) (a .from) (c .before .piles .found) (c .before .piles .found .light)) (c .before .before .at-most .ensures)
-    (subst (λ (r : Split). Searched (c .before .before .at-most .result) (held (a .table .now)) (a .k) (heapOf (a .names .now)) (a .from) r (r .light)) (sym (i .3))
-    (firm-all _ _ _ _ _ _ (c .piles-test .left) (i .5), refl, refl, refl))
+    (subst (λ (r : Split). Searched (c .before .before .at-most .result) (held (a .table .now)) (a .k) (heapOf (a .names .now)) (a .from) r (r .light)) (sym (i .0))
+    (firm-all _ _ _ _ _ _ (c .piles-test .left) (i .2), refl, refl, refl))
 
 returns-2 : tie.Need-returns-2 Inv-loop μ-loop Inv-piles μ-piles
 unfolding Searched cutOf
@@ -179,8 +171,8 @@ returns-2 c =
     (c .before .before .before .before .before .before .before .before .before .before .before .before .before .at-most .ensures) (
       lawful-side n (held (a .table .now)) (a .k) (heapOf (a .names .now)) p (heapOf (l .block)) (marked (l .free)) (sideOf (c .side-of .result)) (l .got .weight)
           (standing (c .before .before .before .before .before .before .before .before)) (l .inv .1 .found (c .before .before .before .if2 .taken)) (c .side-of .ensures),
-      i .4,
-      i .5,
+      i .1,
+      i .2,
     )
 
 pub search-spec : {M : Type 1} → statement M

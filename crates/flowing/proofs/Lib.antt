@@ -1,0 +1,3 @@
+-- The laws of sending.
+pub mod Flowing
+pub mod ProbeSent

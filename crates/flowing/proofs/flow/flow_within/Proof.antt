@@ -1,0 +1,94 @@
+-- `flowing::flow::flow_within` meets its contract: as much as `sent` says was sent so far.
+-- Assumes nothing.
+use Prim.Native.Nat.{_-_}
+use native.Mathlib.Omega.{arith}
+use borrow.Author.Needs.{needs}
+use mathlib.Core.Path.{_≡_}
+use lib.ListN.{length}
+use Rattle.flowing.specs.Flow.{waysOf, leftOf, unmarked, Sent}
+use Rattle.flowing.proofs.ProbeSent.{unknown, sent-first, sent-heavy}
+use Rattle.flowing.proofs.flow.flow_within.Statement.{statement}
+use Rattle.flowing.proofs.flow.flow_within.Tie as tie
+
+abbrev Inv-loop : tie.InvT-loop
+Inv-loop ways next first m k free t res₀ seen₀ sent₀ res seen sent =
+    (length res ≡ 448) × (length seen ≡ 128) × Sent (waysOf ways m) (leftOf res) t (unmarked free) sent t 0
+
+abbrev μ-loop : tie.MeasureT-loop
+μ-loop ways next first m k free t res₀ seen₀ sent₀ res seen sent = k - sent
+
+returns : tie.Need-returns Inv-loop μ-loop
+returns c = (unknown (c .before .pre .3), c .before .pre .2)
+
+start-requires : tie.Need-start-requires Inv-loop μ-loop
+start-requires c κs = search needs
+
+loop-holds : tie.Need-loop-holds Inv-loop μ-loop
+unfolding waysOf
+loop-holds c = (c .start .ensures .0, c .before .before .before .pre .3, sent-first _ _ _ _ (c .start .ensures .1))
+
+sub-want : tie.Need-sub-want Inv-loop μ-loop
+sub-want c = search needs
+
+cast-round : tie.Need-cast-round Inv-loop μ-loop
+cast-round c = search needs
+
+round-requires : tie.Need-round-requires Inv-loop μ-loop
+round-requires c κs =
+    let s = c .before .before .before .before .before .before .before in
+    (s .pre .0, s .pre .1, c .before .before .before .loop .inv .0, c .before .before .before .loop .inv .1)
+
+settle-requires : tie.Need-settle-requires Inv-loop μ-loop
+settle-requires c κs =
+    let s = c .before .before .before .before .before .before .before .before .before .before in
+    ((s .pre .0, s .pre .1), c .before .before .round .ensures .1 .1 .0 (c .before .if2 .taken))
+
+returns-2 : tie.Need-returns-2 Inv-loop μ-loop
+returns-2 c = (c .settle .ensures, c .before .before .before .round .ensures .0)
+
+cast-sent : tie.Need-cast-sent Inv-loop μ-loop
+cast-sent c = search needs
+
+add-sent : tie.Need-add-sent Inv-loop μ-loop
+add-sent c = search needs
+
+loop-less : tie.Need-loop-less Inv-loop μ-loop
+loop-less c = omega arith
+
+loop-again : tie.Need-loop-again Inv-loop μ-loop
+loop-again c =
+    let r = c .before .round .ensures in
+    let l = c .before .before .before .before .before .loop in
+    (r .0, r .1 .1 .1, r .1 .0 (omega arith) .sends (l .sent) (l .inv .2))
+
+returns-3 : tie.Need-returns-3 Inv-loop μ-loop
+returns-3 c =
+    let a = c .before .before .before .before .before .args in
+    let l = c .before .loop in (
+      record {
+        long = l .inv .1;
+        heavy = λ e. sent-heavy (waysOf (a .ways .now) (a .m)) (leftOf (l .res)) (a .t) (unmarked (a .free .now)) (l .sent) (a .k) (l .inv .2) (c .loop-test .left);
+        low = λ e. absurd (omega arith);
+      },
+      l .inv .0,
+    )
+
+pub flow-within-spec : {M : Type 1} → statement M
+flow-within-spec =
+    tie.close
+    (tie.spec
+    Inv-loop
+    μ-loop
+    returns
+    start-requires
+    loop-holds
+    sub-want
+    cast-round
+    round-requires
+    settle-requires
+    returns-2
+    cast-sent
+    add-sent
+    loop-less
+    loop-again
+    returns-3)

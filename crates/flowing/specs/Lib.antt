@@ -1,0 +1,2 @@
+-- What the promises of sending cite.
+pub mod Flow

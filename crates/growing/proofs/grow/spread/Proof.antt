@@ -1,0 +1,203 @@
+-- `growing::grow::spread` meets its contract. The invariant: the set grown so far is not divided, and it is measured.
+-- Assumes nothing.
+use Prim.Native.Nat.{ℕ, _+_, _*_, _-_, _≤_, _<_}
+use mathlib.Core.Path.{_≡_, refl, sym, subst}
+use mathlib.Core.Bool.{false}
+use mathlib.Core.List.{List}
+use native.Mathlib.Nat.{le-refl}
+use native.Mathlib.Omega.{arith}
+use lib.Dec.{T}
+use lib.ListN.{length, getD, set, length-replicate}
+use Rattle.meaning.specs.Count.{Bones}
+use Rattle.meaning.specs.Heap.{pile, stands}
+use Rattle.meaning.proofs.Heaps.{pile-bone}
+use Rattle.pairs.specs.Table.{held}
+use Rattle.pairs.specs.Side.{heapOf}
+use Rattle.growing.specs.Grow.{Spread, Measured, Reached}
+use Rattle.growing.specs.Listing.{Ready}
+use Rattle.pairs.proofs.TableHeld.{held-symmetric}
+use Rattle.pairs.proofs.Filling.{zeros}
+use Rattle.growing.proofs.WaysListed.{ready-none}
+use Rattle.growing.proofs.GrowState.{out-fits, out-covers, spread-next, measured-next}
+use Rattle.growing.proofs.GrowEnds.{beside-below, spread-start, measured-start, light-spread, reached-light, reached-dark, reached-all}
+use Rattle.growing.proofs.grow.spread.Statement.{statement}
+use Rattle.growing.proofs.grow.spread.Tie as tie
+
+abbrev Inv-loop : tie.InvT-loop
+Inv-loop table names n k p own others degrees free₀ ways₀ next₀ first₀ res₀ ties₀ out₀ left₀ pairs₀ free ways next first res ties out left pairs =
+    Spread n (held table) k (pile n (heapOf names) p) p free degrees ties
+    × Measured n (held table) (pile n (heapOf names) p) free ties out left
+    × Ready n (held table) k (pile n (heapOf names) p) ways pairs
+    × (length res ≡ 448)
+    × (left ≤ others)
+
+abbrev μ-loop : tie.MeasureT-loop
+μ-loop table names n k p own others degrees free₀ ways₀ next₀ first₀ res₀ ties₀ out₀ left₀ pairs₀ free ways next first res ties out left pairs = left
+
+-- the pile, its bones, and that p is one of them
+abbrev pile-of : tie.Start Inv-loop μ-loop → Bones
+pile-of s = pile (s .args .n) (heapOf (s .args .names .now)) (s .args .p)
+
+below-of : (s : tie.Start Inv-loop μ-loop) (b : ℕ) → T (pile-of s b) → b < s .args .n
+below-of s = pile-bone (s .args .n) (heapOf (s .args .names .now)) (s .args .p)
+
+standing : (s : tie.Start Inv-loop μ-loop) → T (pile-of s (s .args .p))
+unfolding stands
+standing s = s .pre .0 .1
+
+add-row-requires : tie.Need-add-row-requires Inv-loop μ-loop
+add-row-requires c κs =
+    let s = c .before in
+    ((s .pre .0 .0, below-of s (s .args .p) (standing s)), record { long = length-replicate {A = ℕ} 128 0; room = λ x. omega (arith, zeros 128 x) })
+
+loop-holds : tie.Need-loop-holds Inv-loop μ-loop
+loop-holds c =
+    let s = c .before .before in
+    let start = spread-start (s .args .n) (held (s .args .table .now)) (held-symmetric (s .args .table .now)) (s .args .k) (pile-of s) (s .args .p) (below-of s) (s .pre .0 .0) (standing s) (s .args .free .now) (s .pre .1 .1 .1 .0) in
+    let size = measured-start (s .args .n) (held (s .args .table .now)) (held-symmetric (s .args .table .now)) (s .args .k) (pile-of s) (s .args .p) (below-of s) (s .pre .0 .0) (standing s) (s .args .free .now) (s .pre .1 .1 .1 .0) in
+    (start _ (c .add-row .ensures) _ (s .pre .1 .1 .0 .2) (s .pre .1 .1 .1 .1), size _ (c .add-row .ensures) _ _ (s .pre .1 .0 .0) (s .pre .1 .0 .1) (s .pre .1 .1 .0 .0) (s .pre .1 .1 .0 .1), ready-none refl (omega arith), refl, le-refl _)
+
+returns : tie.Need-returns Inv-loop μ-loop
+returns c =
+    let s = c .before .before .before .before .before in
+    let l = c .before .before .loop in
+    reached-light (s .args .n) (held (s .args .table .now)) (held-symmetric (s .args .table .now)) (s .args .k) (pile-of s) (s .args .p) (below-of s) (light-spread (s .args .n) (held (s .args .table .now)) (held-symmetric (s .args .table .now)) (s .args .k) (pile-of s) (s .args .p) (below-of s) (l .free) (s .args .degrees .now) (l .ties) (l .out) (l .left) (l .inv .0) (l .inv .1) (c .before .loop-test .taken) (c .if1 .taken))
+
+add-all-tied : tie.Need-add-all-tied Inv-loop μ-loop
+add-all-tied c =
+    let s = c .before .before .before .before .before .before .before in
+    omega (arith, s .pre .0 .0, s .pre .1 .1 .0 .1)
+
+sub-all-tied : tie.Need-sub-all-tied Inv-loop μ-loop
+sub-all-tied c = omega (arith, c .before .before .before .before .loop .inv .4)
+
+all-tied-requires : tie.Need-all-tied-requires Inv-loop μ-loop
+all-tied-requires c κs =
+    let s = c .before .before .before .before .before .before .before in
+    (s .pre .0 .0, c .before .before .before .before .loop .inv .0 .most)
+
+returns-2 : tie.Need-returns-2 Inv-loop μ-loop
+returns-2 c =
+    let s = c .before .before .before .before .before .before .before .before .before .before in
+    let l = c .before .before .before .before .before .before .before .loop in
+    reached-all (s .args .n) (held (s .args .table .now)) (held-symmetric (s .args .table .now)) (s .args .k) (pile-of s) (s .args .p) (below-of s) (s .pre .0 .0) (l .inv .0) (c .before .before .all-tied .ensures (c .before .if2 .taken))
+
+choose-requires : tie.Need-choose-requires Inv-loop μ-loop
+choose-requires c κs =
+    let s = c .before .before .before .before .before .before .before .before .before .before .before .before .before .before .before in
+    let l = c .before .before .before .before .before .before .before .before .before .before .before .before .loop in
+    ((s .pre .0 .0, l .inv .3), (l .inv .0, l .inv .2))
+
+returns-3 : tie.Need-returns-3 Inv-loop μ-loop
+returns-3 c =
+    let s = c .before .before .before .before .before .before .before .before .before .before .before .before .before .before .before .before .before in
+    let l = c .before .before .before .before .before .before .before .before .before .before .before .before .before .before .loop in
+    let v = c .before .choose in
+    reached-light (s .args .n) (held (s .args .table .now)) (held-symmetric (s .args .table .now)) (s .args .k) (pile-of s) (s .args .p) (below-of s) (v .ensures .0 .found (c .if3 .taken))
+
+returns-4 : tie.Need-returns-4 Inv-loop μ-loop
+returns-4 c =
+    let s = c .before .before .before .before .before .before .before .before .before .before .before .before .before .before .before .before .before .before in
+    let l = c .before .before .before .before .before .before .before .before .before .before .before .before .before .before .before .loop in
+    let v = c .before .before .choose in
+    subst (λ (m : List ℕ). Reached (s .args .n) (held (s .args .table .now)) (s .args .k) (pile-of s) (s .args .p) m false (l .left) 0) (sym (v .ensures .0 .same (c .before .if3 .left)))
+    (reached-dark (s .args .n) (held (s .args .table .now)) (held-symmetric (s .args .table .now)) (s .args .k) (pile-of s) (s .args .p) (below-of s) (l .inv .0) (l .inv .1))
+
+mul-out : tie.Need-mul-out Inv-loop μ-loop
+mul-out c = omega (arith, c .if4 .left)
+
+element-copy-out-out : tie.Need-element-copy-out-out Inv-loop μ-loop
+element-copy-out-out c = c .if4 .left
+
+add-out : tie.Need-add-out Inv-loop μ-loop
+add-out c =
+    let s = c .before .before .before .before .before .before .before .before .before .before .before .before .before .before .before .before .before .before .before in
+    let l = c .before .before .before .before .before .before .before .before .before .before .before .before .before .before .before .before .loop in
+    let v = c .before .before .before .choose in
+    omega (arith, out-fits (held-symmetric (s .args .table .now)) (below-of s) (s .pre .0 .0) (l .inv .0) (l .out) (l .left) (l .inv .1) (v .result .bone) (v .ensures .0 .one (c .before .before .if3 .left) (c .before .if4 .left)))
+
+mul-out-2 : tie.Need-mul-out-2 Inv-loop μ-loop
+mul-out-2 c = omega (arith, c .before .if4 .left)
+
+array-read-out : tie.Need-array-read-out Inv-loop μ-loop
+array-read-out c = c .before .if4 .left
+
+mul-out-3 : tie.Need-mul-out-3 Inv-loop μ-loop
+mul-out-3 c =
+    let s = c .before .before .before .before .before .before .before .before .before .before .before .before .before .before .before .before .before .before .before in
+    let l = c .before .before .before .before .before .before .before .before .before .before .before .before .before .before .before .before .loop in
+    let v = c .before .before .before .choose in
+    omega (arith, l .inv .0 .most (v .result .bone))
+
+sub-out : tie.Need-sub-out Inv-loop μ-loop
+sub-out c =
+    let s = c .before .before .before .before .before .before .before .before .before .before .before .before .before .before .before .before .before .before .before in
+    let l = c .before .before .before .before .before .before .before .before .before .before .before .before .before .before .before .before .loop in
+    let v = c .before .before .before .choose in
+    out-covers (held-symmetric (s .args .table .now)) (below-of s) (s .pre .0 .0) (l .inv .0) (l .out) (l .left) (l .inv .1) (v .result .bone) (v .ensures .0 .one (c .before .before .if3 .left) (c .before .if4 .left))
+
+element-write-free : tie.Need-element-write-free Inv-loop μ-loop
+element-write-free c = c .before .if4 .left
+
+sub-left : tie.Need-sub-left Inv-loop μ-loop
+sub-left c = omega (arith, c .before .before .before .before .before .before .before .before .before .before .before .before .before .before .before .loop-test .taken)
+
+add-row-requires-2 : tie.Need-add-row-requires-2 Inv-loop μ-loop
+add-row-requires-2 c κs =
+    let s = c .before .before .before .before .before .before .before .before .before .before .before .before .before .before .before .before .before .before .before .before in
+    let l = c .before .before .before .before .before .before .before .before .before .before .before .before .before .before .before .before .before .loop in
+    let v = c .before .before .before .before .choose in
+    ((s .pre .0 .0, beside-below (s .args .n) (pile-of s) (s .args .p) (below-of s) (v .result .bone) (l .inv .0 .others (v .result .bone) (v .ensures .0 .one (c .before .before .before .if3 .left) (c .before .before .if4 .left)))), record { long = l .inv .0 .ties-long; room = λ x. omega (arith, l .inv .0 .most x) })
+
+loop-less : tie.Need-loop-less Inv-loop μ-loop
+loop-less c = omega (arith, c .before .before .before .before .before .before .before .before .before .before .before .before .before .before .before .before .before .loop-test .taken)
+
+loop-again : tie.Need-loop-again Inv-loop μ-loop
+loop-again c =
+    let s = c .before .before .before .before .before .before .before .before .before .before .before .before .before .before .before .before .before .before .before .before .before in
+    let l = c .before .before .before .before .before .before .before .before .before .before .before .before .before .before .before .before .before .before .loop in
+    let v = c .before .before .before .before .before .choose in
+    let n = s .args .n in
+    let w = held (s .args .table .now) in
+    let ties = c .add-row2 .last .1 .1 .1 .0 in
+    let grown = subst
+    (λ (m : List ℕ). Spread n w (s .args .k) (pile-of s) (s .args .p) (set m (v .result .bone) 0) (s .args .degrees .now) ties × Measured n w (pile-of s) (set m (v .result .bone) 0) ties (l .out + getD (s .args .degrees .now) (v .result .bone) 0 - 2 * getD (l .ties) (v .result .bone) 0) (l .left - 1))
+    (sym (v .ensures .0 .same (c .before .before .before .before .if3 .left)))
+    (spread-next (held-symmetric (s .args .table .now)) (below-of s) (s .pre .0 .0) (l .inv .0) (l .out) (l .left) (l .inv .1) (v .result .bone) (v .ensures .0 .one (c .before .before .before .before .if3 .left) (c .before .before .before .if4 .left)) ties (c .add-row2 .ensures) (v .ensures .0 .joins (c .before .before .before .before .if3 .left) (c .before .before .before .if4 .left)), measured-next (held-symmetric (s .args .table .now)) (below-of s) (s .pre .0 .0) (l .inv .0) (l .out) (l .left) (l .inv .1) (v .result .bone) (v .ensures .0 .one (c .before .before .before .before .if3 .left) (c .before .before .before .if4 .left)) ties (c .add-row2 .ensures)) in
+    (grown .0, grown .1, v .ensures .1 .0, v .ensures .1 .1, omega (arith, l .inv .4))
+
+returns-5 : tie.Need-returns-5 Inv-loop μ-loop
+returns-5 c =
+    let s = c .before .before .before .before in
+    let l = c .before .loop in
+    reached-dark (s .args .n) (held (s .args .table .now)) (held-symmetric (s .args .table .now)) (s .args .k) (pile-of s) (s .args .p) (below-of s) (l .inv .0) (l .inv .1)
+
+pub spread-spec : {M : Type 1} → statement M
+spread-spec =
+    tie.close
+    (tie.spec
+    Inv-loop
+    μ-loop
+    add-row-requires
+    loop-holds
+    returns
+    add-all-tied
+    sub-all-tied
+    all-tied-requires
+    returns-2
+    choose-requires
+    returns-3
+    returns-4
+    mul-out
+    element-copy-out-out
+    add-out
+    mul-out-2
+    array-read-out
+    mul-out-3
+    sub-out
+    element-write-free
+    sub-left
+    add-row-requires-2
+    loop-less
+    loop-again
+    returns-5)

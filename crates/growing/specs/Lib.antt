@@ -1,0 +1,5 @@
+-- What the promises of growing cite.
+pub mod Blocks
+pub mod Grow
+pub mod Listing
+pub mod Three

@@ -1,0 +1,103 @@
+// Probing a free bone of a pile: whether tally k can be sent from it to the bones that are not free, over the pile's pairs, which ties it to
+// them; or whether the free bones that it still reaches, once no more can be sent, are a light side.
+use crate::ways::list_once;
+use flowing::flow::Shown;
+use flowing::flow::flow;
+ghost use mathlib.Core.Path.{_≡_};
+ghost use Prim.Native.Nat.{ℕ, _<_, _≤_};
+ghost use lib.Dec.{T};
+ghost use lib.ListN.{length};
+ghost use Rattle.meaning.specs.Heap.{pile};
+ghost use Rattle.pairs.specs.Table.{held};
+ghost use Rattle.pairs.specs.Side.{heapOf};
+ghost use Rattle.pairs.specs.Marks.{marked};
+ghost use Rattle.growing.specs.Grow.{beside, Probed};
+ghost use Rattle.growing.specs.Listing.{Ready};
+
+// The free bone t of the pile named p is probed. The first m of `ways` are the pile's pairs, unless m is over 448: then nothing is known.
+fn probe_listed(
+    table: &[u32; 16384],
+    names: &[u8; 128],
+    n: usize,
+    k: u64,
+    p: usize,
+    t: usize,
+    ways: &[u32; 448],
+    next: &[u16; 896],
+    first: &[u16; 128],
+    m: usize,
+    res: &mut [u32; 448],
+    free: &mut [u8; 128],
+) -> Shown
+    requires { ⌜ (n ≤ 128) × (length (now free) ≡ 128) × (length (now res) ≡ 448) × T (marked (now free) t) ⌝ }
+    requires { ⌜ ((x : ℕ) → T (marked (now free) x) → T (beside (pile n (heapOf (now names)) p) p x)) ⌝ }
+    requires { ⌜ Ready n (held (now table)) k (pile n (heapOf (now names)) p) (now ways) m ⌝ }
+    ensures { λ r. ⌜ Probed n (held (now (table .entry))) k (pile n (heapOf (now (names .entry))) p) p t (now (free .entry)) (now (free .exit)) (r .verdict) (r .weight) ⌝ }
+    ensures { λ r. ⌜ length (now (res .exit)) ≡ 448 ⌝ }
+{
+    if 448 < m {
+        return Shown {
+            verdict: 0,
+            weight: 0,
+        };
+    }
+    let mut seen = [0u8; 128];
+    let got = flow(ways, next, first, m, k, free, t, res, &mut seen);
+    let verdict = got.verdict;
+    if verdict == 2 {
+        *free = seen;
+    }
+    got
+}
+
+// What a probe tells: 1, that the bone is tied to the bones that are not free by k; 2, a light side, left as marks in place of the free ones,
+// and its weight; 0, nothing. And the number of pairs that are listed, to be handed to the next probe of the same pile.
+pub(crate) struct Finding {
+    pub(crate) verdict: u8,
+    pub(crate) weight: u64,
+    pub(crate) pairs: usize,
+}
+
+// The free bone t of the pile named p is probed. At the first probe of a pile m is 450: its pairs are not listed yet.
+pub(crate) fn probe(
+    table: &[u32; 16384],
+    names: &[u8; 128],
+    n: usize,
+    k: u64,
+    p: usize,
+    t: usize,
+    ways: &mut [u32; 448],
+    next: &mut [u16; 896],
+    first: &mut [u16; 128],
+    m: usize,
+    res: &mut [u32; 448],
+    free: &mut [u8; 128],
+) -> Finding
+    requires { ⌜ (n ≤ 128) × (length (now free) ≡ 128) × (length (now res) ≡ 448) × T (marked (now free) t) ⌝ }
+    requires { ⌜ ((x : ℕ) → T (marked (now free) x) → T (beside (pile n (heapOf (now names)) p) p x)) ⌝ }
+    requires { ⌜ Ready n (held (now table)) k (pile n (heapOf (now names)) p) (now ways) m ⌝ }
+    ensures { λ r. ⌜ Probed n (held (now (table .entry))) k (pile n (heapOf (now (names .entry))) p) p t (now (free .entry)) (now (free .exit)) (r .verdict) (r .weight) ⌝ }
+    ensures { λ r. ⌜ length (now (res .exit)) ≡ 448 ⌝ }
+    ensures { λ r. ⌜ Ready n (held (now (table .entry))) k (pile n (heapOf (now (names .entry))) p) (now (ways .exit)) (r .pairs) ⌝ }
+{
+    let pairs = list_once(table, names, n, k, p, ways, next, first, m);
+    let got = probe_listed(
+        table,
+        names,
+        n,
+        k,
+        p,
+        t,
+        ways,
+        next,
+        first,
+        pairs,
+        res,
+        free,
+    );
+    Finding {
+        verdict: got.verdict,
+        weight: got.weight,
+        pairs,
+    }
+}

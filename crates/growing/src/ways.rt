@@ -1,0 +1,190 @@
+// The pairs of a pile that have a tally, each listed once with its ends and its room: the tally, k at most. From every bone lead the arcs of
+// its pairs: arc 2 q goes from end x of pair q to end y, arc 2 q + 1 back. The arcs are for finding a path, and nothing is promised of them.
+use crate::row::pair;
+use pairs::numbers::bone;
+ghost use mathlib.Core.Path.{_≡_};
+ghost use Prim.Native.Nat.{_+_, _/_, _%_, _<_, _≤_, min};
+ghost use lib.Dec.{T};
+ghost use lib.ListN.{length, set};
+ghost use Rattle.meaning.specs.Heap.{pile};
+ghost use Rattle.pairs.specs.Table.{held};
+ghost use Rattle.pairs.specs.Side.{heapOf};
+ghost use Rattle.flowing.specs.Flow.{wayOf};
+ghost use Rattle.growing.specs.Listing.{Listed, Ready};
+
+// The room of a pair: its tally, k at most.
+fn room_of(table: &[u32; 16384], k: u32, i: usize, j: usize) -> u32
+    requires { ⌜ (i < 128) × (j < i) × (k < 65536) ⌝ }
+    ensures { λ r. ⌜ (r ≡ min (held (now (table .entry)) i j) k) × (r < 65536) ⌝ }
+{
+    let w = pair(table, i, j);
+    if w < k as u64 { w as u32 } else { k }
+}
+
+// The two arcs of pair m are put before those that its ends have already.
+fn put_arcs(next: &mut [u16; 896], first: &mut [u16; 128], m: usize, x: usize, y: usize)
+    requires { ⌜ (m < 448) × (x < 128) × (y < 128) ⌝ }
+{
+    let a = 2 * m;
+    next[a] = first[x];
+    first[x] = a as u16;
+    next[a + 1] = first[y];
+    first[y] = (a + 1) as u16;
+}
+
+// Pair m is listed, and its two arcs.
+fn put_way(
+    ways: &mut [u32; 448],
+    next: &mut [u16; 896],
+    first: &mut [u16; 128],
+    m: usize,
+    x: usize,
+    y: usize,
+    room: u32,
+)
+    requires { ⌜ (m < 448) × (x < 128) × (y < 128) × (room < 65536) ⌝ }
+    ensures { λ r. ⌜ now (ways .exit) ≡ set (now (ways .entry)) m (wayOf x y room) ⌝ }
+{
+    put_arcs(next, first, m, x, y);
+    ways[m] = x as u32 + 256 * (y as u32) + 65536 * room;
+}
+
+// The pair of bone i of the pile with bone j is listed, where j is in the pile too and the pair has room. Gives the number of pairs
+// listed so far; 449 where there is no place for it.
+fn list_pair(
+    table: &[u32; 16384],
+    names: &[u8; 128],
+    n: usize,
+    k: u32,
+    p: usize,
+    i: usize,
+    j: usize,
+    ways: &mut [u32; 448],
+    next: &mut [u16; 896],
+    first: &mut [u16; 128],
+    m: usize,
+) -> usize
+    requires { ⌜ (n ≤ 128) × (k < 65536) × (i < n) × (j < i) ⌝ }
+    requires { ⌜ T (pile n (heapOf (now names)) p i) ⌝ }
+    requires { ⌜ Listed (held (now table)) k (pile n (heapOf (now names)) p) (now ways) m i j ⌝ }
+    ensures { λ r. ⌜ Listed (held (now (table .entry))) k (pile n (heapOf (now (names .entry))) p) (now (ways .exit)) r i (j + 1) ⌝ }
+{
+    let r = room_of(table, k, i, j);
+    if 0 < r {
+        if bone(names[j]) == p {
+            if m < 448 {
+                put_way(ways, next, first, m, i, j, r);
+                return m + 1;
+            }
+            return 449;
+        }
+    }
+    m
+}
+
+// The pairs of bone i of the pile with the bones below it.
+fn list_row(
+    table: &[u32; 16384],
+    names: &[u8; 128],
+    n: usize,
+    k: u32,
+    p: usize,
+    i: usize,
+    ways: &mut [u32; 448],
+    next: &mut [u16; 896],
+    first: &mut [u16; 128],
+    m: usize,
+) -> usize
+    requires { ⌜ (n ≤ 128) × (k < 65536) × (i < n) ⌝ }
+    requires { ⌜ T (pile n (heapOf (now names)) p i) ⌝ }
+    requires { ⌜ Listed (held (now table)) k (pile n (heapOf (now names)) p) (now ways) m i 0 ⌝ }
+    ensures { λ r. ⌜ Listed (held (now (table .entry))) k (pile n (heapOf (now (names .entry))) p) (now (ways .exit)) r (i + 1) 0 ⌝ }
+{
+    let mut listed = m;
+    for j in 0..i {
+        listed = list_pair(table, names, n, k, p, i, j, ways, next, first, listed);
+    }
+    listed
+}
+
+// The same where bone i may be in another pile, or too many pairs were met before.
+fn list_bone(
+    table: &[u32; 16384],
+    names: &[u8; 128],
+    n: usize,
+    k: u32,
+    p: usize,
+    i: usize,
+    ways: &mut [u32; 448],
+    next: &mut [u16; 896],
+    first: &mut [u16; 128],
+    m: usize,
+) -> usize
+    requires { ⌜ (n ≤ 128) × (k < 65536) × (i < n) ⌝ }
+    requires { ⌜ Listed (held (now table)) k (pile n (heapOf (now names)) p) (now ways) m i 0 ⌝ }
+    ensures { λ r. ⌜ Listed (held (now (table .entry))) k (pile n (heapOf (now (names .entry))) p) (now (ways .exit)) r (i + 1) 0 ⌝ }
+{
+    if 448 < m {
+        return m;
+    }
+    if bone(names[i]) == p {
+        return list_row(table, names, n, k, p, i, ways, next, first, m);
+    }
+    m
+}
+
+// No bone has an arc yet. No arc is numbered 896 or more.
+fn no_arcs(first: &mut [u16; 128]) {
+    for b in 0..128 {
+        first[b] = 896;
+    }
+}
+
+// The pairs of the pile named p, of which there are as many as it gives; where it gives over 448, there are too many, or k is over 65,535,
+// and nothing is known.
+fn list_ways(
+    table: &[u32; 16384],
+    names: &[u8; 128],
+    n: usize,
+    k: u64,
+    p: usize,
+    ways: &mut [u32; 448],
+    next: &mut [u16; 896],
+    first: &mut [u16; 128],
+) -> usize
+    requires { ⌜ (n ≤ 128) × (length (now ways) ≡ 448) ⌝ }
+    ensures { λ r. ⌜ Ready n (held (now (table .entry))) k (pile n (heapOf (now (names .entry))) p) (now (ways .exit)) r ⌝ }
+{
+    if 65535 < k {
+        return 449;
+    }
+    let most = k as u32;
+    no_arcs(first);
+    let mut m = 0;
+    for i in 0..n {
+        m = list_bone(table, names, n, most, p, i, ways, next, first, m);
+    }
+    m
+}
+
+// The same, where it was not done yet: then m is 450.
+pub(crate) fn list_once(
+    table: &[u32; 16384],
+    names: &[u8; 128],
+    n: usize,
+    k: u64,
+    p: usize,
+    ways: &mut [u32; 448],
+    next: &mut [u16; 896],
+    first: &mut [u16; 128],
+    m: usize,
+) -> usize
+    requires { ⌜ n ≤ 128 ⌝ }
+    requires { ⌜ Ready n (held (now table)) k (pile n (heapOf (now names)) p) (now ways) m ⌝ }
+    ensures { λ r. ⌜ Ready n (held (now (table .entry))) k (pile n (heapOf (now (names .entry))) p) (now (ways .exit)) r ⌝ }
+{
+    if m < 450 {
+        return m;
+    }
+    list_ways(table, names, n, k, p, ways, next, first)
+}

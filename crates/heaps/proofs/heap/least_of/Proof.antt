@@ -1,0 +1,74 @@
+-- `heaps::heap::least_of` meets its contract. The invariant: no bone below b is on the side. Assumes nothing.
+use Prim.Native.Nat.{ℕ, zero-le, _≤_, _<_, _-_}
+use mathlib.Core.Path.{sym, _∙_}
+use mathlib.Core.Bool.{not}
+use native.Mathlib.Nat.{not-suc-le-zero}
+use native.Mathlib.Omega.{arith}
+use lib.Dec.{T}
+use borrow.Author.Needs.{needs}
+use borrow.Author.Count.{below-more}
+use Rattle.meaning.proofs.Tests.{holds, fails}
+use Rattle.pairs.specs.Side.{sideOf}
+use Rattle.pairs.proofs.Sides.{on-side}
+use Rattle.heaps.proofs.Parting.{least-here, least-none}
+use Rattle.heaps.proofs.heap.least_of.Statement.{statement}
+use Rattle.heaps.proofs.heap.least_of.Tie as tie
+
+abbrev Inv-loop : tie.InvT-loop
+Inv-loop side n b₀ b = (b ≤ n) × ((x : ℕ) → x < b → T (not (sideOf side x)))
+
+abbrev μ-loop : tie.MeasureT-loop
+μ-loop side n b₀ b = n - b
+
+loop-holds : tie.Need-loop-holds Inv-loop μ-loop
+loop-holds c = (zero-le, λ x l. absurd (not-suc-le-zero l))
+
+in-side-requires : tie.Need-in-side-requires Inv-loop μ-loop
+in-side-requires c κs = search needs
+
+cast-result : tie.Need-cast-result Inv-loop μ-loop
+cast-result c = omega arith
+
+returns : tie.Need-returns Inv-loop μ-loop
+returns c =
+    let a = c .before .before .before .before .args in
+    let head = c .before .before .before .loop in
+    sym (least-here (a .n) (sideOf (a .side .now)) (head .b) (omega arith)
+    (holds (sym (on-side (a .side .now) (head .b) (omega arith) (c .before .in-side .ensures)) ∙ c .if1 .taken))
+    (head .inv .1))
+
+add-b : tie.Need-add-b Inv-loop μ-loop
+add-b c = omega arith
+
+loop-less : tie.Need-loop-less Inv-loop μ-loop
+loop-less c = omega arith
+
+loop-again : tie.Need-loop-again Inv-loop μ-loop
+loop-again c =
+    let a = c .before .before .before .before .args in
+    let head = c .before .before .before .loop in
+    (omega arith, below-more _ (head .b) (head .inv .1) (fails (sym (on-side (a .side .now) (head .b) (omega arith) (c .before .in-side .ensures)) ∙ c .if1 .left)))
+
+cast-result-2 : tie.Need-cast-result-2 Inv-loop μ-loop
+cast-result-2 c = omega arith
+
+returns-2 : tie.Need-returns-2 Inv-loop μ-loop
+returns-2 c =
+    let a = c .before .before .args in
+    sym (least-none (a .n) (sideOf (a .side .now)) (λ x l. c .before .loop .inv .1 x (omega arith)))
+
+pub least-of-spec : {M : Type 1} → statement M
+least-of-spec =
+    tie.close
+    (tie.spec
+    Inv-loop
+    μ-loop
+    loop-holds
+    in-side-requires
+    cast-result
+    returns
+    add-b
+    loop-less
+    loop-again
+    cast-result-2
+    returns-2)

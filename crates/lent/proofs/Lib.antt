@@ -1,0 +1,12 @@
+-- The laws of link records, and the walks over a run of them.
+pub mod RecordsRows
+pub mod RecordsKept
+pub mod RecordsLink
+pub mod RecordsCalls
+pub mod RecordsRead
+pub mod RecordsShort
+pub mod RecordsTable
+pub mod RecordsLocal
+pub mod RecordsFill
+pub mod RecordsAgain
+pub mod RecordsStore

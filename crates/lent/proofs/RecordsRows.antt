@@ -1,0 +1,139 @@
+-- Laws of going through a run of links one after the other: what judging and adding the first links comes to, and one link more.
+-- Assumes nothing.
+use Prim.Native.Nat.{ℕ, zero, suc, _+_, _<_, _≤_}
+use mathlib.Core.Path.{_≡_, refl, sym, _∙_, ap, subst}
+use mathlib.Core.Bool.{true}
+use mathlib.Core.List.{List, [], _∷_, _++_}
+use native.Mathlib.Nat.{zero-add, add-zero, add-suc, suc-add, le-of-lt, not-suc-le-zero, le-of-suc-le-suc}
+use native.Mathlib.Numerals.{add-one}
+use native.Mathlib.Omega.{arith}
+use lib.ListN.{length, getD, take}
+use lib.Seq.{take-suc, take-length, length-take-le, getD-take}
+use Rattle.meaning.specs.declared.Link.{Link}
+use Rattle.meaning.specs.declared.Judged.{Judged}
+use Rattle.meaning.specs.declared.Judged.the-variants.{Accepted, Refused}
+use Rattle.meaning.specs.Judge.{first}
+use Rattle.pairs.specs.Links.{linkRows, linksRows, countRows, tableRows}
+use Rattle.pairs.specs.Table.{added, tallied, filled}
+use Rattle.lent.specs.Records.{noLink, firstOf, upTo}
+use Rattle.pairs.proofs.TableAdds.{tallied-append}
+use Rattle.pairs.proofs.LinksRows.{counts-accepted, Proper, Propers, links-accepted, links-proper, propers-more, table-counted, table-proper}
+
+-- the first refusal of two, where the first is known
+pub firstOf-accepted : {j : Judged} (k : Judged) → j ≡ Accepted → k ≡ firstOf j k
+unfolding firstOf
+firstOf-accepted k e = rw e
+
+pub firstOf-refused : {j : Judged} (k : Judged) {number place : ℕ} → j ≡ Refused number place → Refused number place ≡ firstOf j k
+unfolding firstOf
+firstOf-refused k e = rw e
+
+pub upTo-accepted : {j : Judged} (count : ℕ) → j ≡ Accepted → count ≡ upTo j count
+unfolding upTo
+upTo-accepted count e = rw e
+
+pub upTo-refused : {j : Judged} (count : ℕ) {number place : ℕ} → j ≡ Refused number place → 0 ≡ upTo j count
+unfolding upTo
+upTo-refused count e = rw e
+
+firstOf-none : (j : Judged) → firstOf j Accepted ≡ j
+unfolding firstOf
+firstOf-none Accepted = refl
+firstOf-none (Refused number place) = refl
+
+firstOf-assoc : (i j k : Judged) → firstOf (firstOf i j) k ≡ firstOf i (firstOf j k)
+unfolding firstOf
+firstOf-assoc Accepted j k = refl
+firstOf-assoc (Refused number place) j k = refl
+
+-- the first refusal of two lists put together
+first-append : (js ks : List Judged) → first (js ++ ks) ≡ firstOf (first js) (first ks)
+unfolding first firstOf
+first-append [] ks = refl
+first-append (Accepted ∷ js) ks = first-append js ks
+first-append (Refused number place ∷ js) ks = refl
+
+-- one link more at the end of a list
+links-last : (n i : ℕ) (ls : List Link) (l : Link) → first (linksRows n i (ls ++ l ∷ [])) ≡ firstOf (first (linksRows n i ls)) (first (linkRows n (i + length ls) l))
+unfolding linksRows first firstOf
+links-last n i [] l = first-append (linkRows n i l) [] ∙ firstOf-none (first (linkRows n i l)) ∙ ap (λ (m : ℕ). first (linkRows n m l)) (sym (add-zero i))
+links-last n i (k ∷ ls) l =
+    first-append (linkRows n i k) (linksRows n (suc i) (ls ++ l ∷ []))
+    ∙ ap (firstOf (first (linkRows n i k))) (links-last n (suc i) ls l)
+    ∙ sym (firstOf-assoc (first (linkRows n i k)) (first (linksRows n (suc i) ls)) (first (linkRows n (suc i + length ls) l)))
+    ∙ ap (λ (j : Judged). firstOf j (first (linkRows n (suc i + length ls) l))) (sym (first-append (linkRows n i k) (linksRows n (suc i) ls)))
+    ∙ ap (λ (m : ℕ). firstOf (first (linkRows n i k ++ linksRows n (suc i) ls)) (first (linkRows n m l))) (suc-add i (length ls) ∙ sym (add-suc i (length ls)))
+
+pub take-next : (links : List Link) (i : ℕ) → i < length links → take (i + 1) links ≡ take i links ++ getD links i noLink ∷ []
+take-next links i h = rw add-one (take-suc links i noLink h)
+
+-- judging the first i links of a run, after rows 1, 2 and 3 gave `counts`
+unfoldable pub soFar : ℕ → Judged → List Link → ℕ → Judged
+soFar n counts links i = firstOf counts (first (linksRows n 0 (take i links)))
+
+pub soFar-none : (n : ℕ) (counts : Judged) (links : List Link) → counts ≡ soFar n counts links 0
+unfolding soFar linksRows first
+soFar-none n counts links = sym (firstOf-none counts)
+
+pub soFar-next : (n : ℕ) (counts : Judged) (links : List Link) (i : ℕ) → i < length links → firstOf (soFar n counts links i) (first (linkRows n i (getD links i noLink))) ≡ soFar n counts links (i + 1)
+unfolding soFar
+soFar-next n counts links i h =
+    firstOf-assoc counts (first (linksRows n 0 (take i links))) (first (linkRows n i (getD links i noLink)))
+    ∙ ap (firstOf counts)
+    (ap (λ (m : ℕ). firstOf (first (linksRows n 0 (take i links))) (first (linkRows n m (getD links i noLink)))) (sym (zero-add (length (take i links)) ∙ length-take-le i links (le-of-lt h)))
+    ∙ sym (links-last n 0 (take i links) (getD links i noLink))
+    ∙ ap (λ (ls : List Link). first (linksRows n 0 ls)) (sym (take-next links i h)))
+
+-- all of them: what rows 1 to 6 give
+pub soFar-all : (n k : ℕ) (counts : Judged) (links : List Link) → counts ≡ first (countRows n k true (length links)) → soFar n counts links (upTo counts (length links)) ≡ first (tableRows n k true links)
+unfolding soFar upTo tableRows firstOf
+soFar-all n k Accepted links e =
+    ap (λ (ls : List Link). first (linksRows n 0 ls)) (take-length links)
+    ∙ sym (first-append (countRows n k true (length links)) (linksRows n 0 links) ∙ ap (λ (j : Judged). firstOf j (first (linksRows n 0 links))) (sym e))
+soFar-all n k (Refused number place) links e =
+    sym (first-append (countRows n k true (length links)) (linksRows n 0 links) ∙ ap (λ (j : Judged). firstOf j (first (linksRows n 0 links))) (sym e))
+
+-- where rows 1, 2 and 3 gave `counts`, a link that is gone through is one of the run, and of 4096
+pub upTo-few : (n k i : ℕ) (counts : Judged) (links : List Link) → counts ≡ first (countRows n k true (length links)) → i < upTo counts (length links) → (i < length links) × (i < 4096)
+unfolding upTo
+upTo-few n k i Accepted links e h = let few = counts-accepted n k true (length links) (sym e) .few-links in (h, omega arith)
+upTo-few n k i (Refused number place) links e h = (omega arith, omega arith)
+
+pub upTo-most : (j : Judged) (count : ℕ) → upTo j count ≤ count
+unfolding upTo
+upTo-most Accepted count = omega arith
+upTo-most (Refused number place) count = omega arith
+
+-- adding the first i links
+pub tallied-take : (t : List ℕ) (links : List Link) (i : ℕ) → i < length links → added (tallied t (take i links)) (getD links i noLink) ≡ tallied t (take (i + 1) links)
+unfolding tallied
+tallied-take t links i h = sym (ap (tallied t) (take-next links i h) ∙ tallied-append t (take i links) (getD links i noLink ∷ []))
+
+-- a link of a list that is accepted among 128 bones has its ends below 128
+propers-at : (n : ℕ) (ls : List Link) (i : ℕ) → Propers n ls → i < length ls → Proper n (getD ls i noLink)
+unfolding Propers
+propers-at n [] i ps h = absurd (not-suc-le-zero h)
+propers-at n (l ∷ ls) zero ps h = ps .0
+propers-at n (l ∷ ls) (suc i) ps h = propers-at n ls i (ps .1) (le-of-suc-le-suc h)
+
+pub ends-below : (links : List Link) (count i : ℕ) → first (linksRows 128 0 (take count links)) ≡ Accepted → count ≤ length links → i < count → (getD links i noLink .a < 128) × (getD links i noLink .b < 128)
+ends-below links count i ok few h =
+    let p = propers-at 128 (take count links) i (links-accepted 128 0 (take count links) ok) (omega (arith, length-take-le count links few)) in
+    let e = getD-take count links i noLink h in
+    (subst (λ (l : Link). l .a < 128) e (p .first-end), subst (λ (l : Link). l .b < 128) e (p .second-end))
+
+-- what is added where the input was judged is accepted among 128 bones; and the table that it leaves
+pub upTo-accepts : (n k : ℕ) (j : Judged) (links : List Link) → j ≡ first (tableRows n k true links) → first (linksRows 128 0 (take (upTo j (length links)) links)) ≡ Accepted
+unfolding upTo linksRows first
+upTo-accepts n k Accepted links e =
+    ap (λ (ls : List Link). first (linksRows 128 0 ls)) (take-length links) ∙ links-proper 128 0 links (propers-more n 128 links (table-counted n k true links (sym e) .few-bones) (table-proper n k true links (sym e)))
+upTo-accepts n k (Refused number place) links e = refl
+
+pub upTo-filled : (t : List ℕ) (j : Judged) (links : List Link) → tallied t (take (upTo j (length links)) links) ≡ filled j t links
+unfolding upTo filled tallied
+upTo-filled t Accepted links = ap (tallied t) (take-length links)
+upTo-filled t (Refused number place) links = refl
+
+pub tallied-no : (t : List ℕ) (links : List Link) → t ≡ tallied t (take 0 links)
+unfolding tallied
+tallied-no t links = refl

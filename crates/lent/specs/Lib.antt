@@ -1,0 +1,2 @@
+-- What the promises over link records cite.
+pub mod Records

@@ -1,0 +1,140 @@
+// Links lent as a run of link records, read and written where they stand. The borrow checker covers no slice of structs, so each function that
+// takes one is proved by hand: they are few, and leave the work to functions on one link, on numbers and on the table.
+use meaning::Judged;
+use meaning::Link;
+use pairs::links::judge_counts;
+use pairs::links::judge_link;
+use pairs::table::add_within;
+ghost use mathlib.Core.Path.{_≡_};
+ghost use Prim.Native.Nat.{_+_, _<_, _≤_};
+ghost use mathlib.Core.Bool.{true};
+ghost use lib.ListN.{length, getD, set, take};
+ghost use Rattle.meaning.specs.Judge.{first};
+ghost use Rattle.meaning.specs.declared.Judged.the-variants.{Accepted};
+ghost use Rattle.pairs.specs.Links.{linkRows, linksRows, tableRows};
+ghost use Rattle.pairs.specs.Table.{added, tallied, filled};
+ghost use Rattle.lent.specs.Records.{noLink, firstOf, upTo, sameLabel, keptLinks, written};
+
+// The link in place i; past the end, a link of noughts.
+pub fn link_at(links: &[Link], i: usize) -> Link
+    ensures { λ r. ⌜ r ≡ getD (now (links .entry)) i noLink ⌝ }
+{
+    if i < links.len() {
+        links[i]
+    } else {
+        Link {
+            a: 0,
+            b: 0,
+            tally: 0,
+        }
+    }
+}
+
+// The link is put in place i, and the others stay; past the end nothing changes.
+pub fn store_link(links: &mut [Link], i: usize, l: Link)
+    ensures { λ _. ⌜ now (links .exit) ≡ set (now (links .entry)) i l ⌝ }
+{
+    if i < links.len() {
+        links[i] = l;
+    }
+}
+
+// How many links are to be gone through: all, or none once the input is refused.
+fn up_to(judged: Judged, count: usize) -> usize
+    ensures { λ r. ⌜ r ≡ upTo judged count ⌝ }
+{
+    match judged {
+        Judged::Accepted => count,
+        Judged::Refused {
+            number: _,
+            place: _,
+        } => 0,
+    }
+}
+
+// The first refusal of what was judged before and of rows 4, 5 and 6 on the link in place i.
+fn judge_next(judged: Judged, n: u64, l: Link, i: usize) -> Judged
+    requires { ⌜ i < 4096 ⌝ }
+    ensures { λ r. ⌜ r ≡ firstOf judged (first (linkRows n i l)) ⌝ }
+{
+    match judged {
+        Judged::Accepted => judge_link(n, l.a, l.b, l.tally, i as u32),
+        Judged::Refused { number, place } => Judged::Refused { number, place },
+    }
+}
+
+// Rows 1 to 6 on links lent as records.
+pub fn judge_records(n: u64, k: u64, links: &[Link]) -> Judged
+    ensures { λ r. ⌜ r ≡ first (tableRows n k true (now (links .entry))) ⌝ }
+{
+    let mut judged = judge_counts(n, k, true, links.len());
+    let count = up_to(judged, links.len());
+    let mut i = 0;
+    while i < count {
+        judged = judge_next(judged, n, link_at(links, i), i);
+        i += 1;
+    }
+    judged
+}
+
+// One link added.
+pub(crate) fn add_record(table: &mut [u32; 16384], l: Link)
+    requires { ⌜ (l .a < 128) × (l .b < 128) ⌝ }
+    ensures { λ _. ⌜ now (table .exit) ≡ added (now (table .entry)) l ⌝ }
+{
+    add_within(table, l.a, l.b, l.tally);
+}
+
+// The first links of a run of records added. They were judged: no end is 128 or more.
+fn add_records(links: &[Link], count: usize, table: &mut [u32; 16384])
+    requires { ⌜ (count ≤ length (now links)) × (first (linksRows 128 0 (take count (now links))) ≡ Accepted) ⌝ }
+    ensures { λ _. ⌜ now (table .exit) ≡ tallied (now (table .entry)) (take count (now (links .entry))) ⌝ }
+{
+    let mut i = 0;
+    while i < count {
+        add_record(table, link_at(links, i));
+        i += 1;
+    }
+}
+
+// Judges n, k and links lent as records, and adds the links to the table; where they are refused it stays as it was.
+pub fn fill_records(n: u64, k: u64, links: &[Link], table: &mut [u32; 16384]) -> Judged
+    ensures { λ r. ⌜ (r ≡ first (tableRows n k true (now (links .entry)))) × (now (table .exit) ≡ filled r (now (table .entry)) (now (links .entry))) ⌝ }
+{
+    let judged = judge_records(n, k, links);
+    add_records(links, up_to(judged, links.len()), table);
+    judged
+}
+
+// Whether both ends of a link carry the same label. No bone from 128 on has one.
+fn same_label(labels: &[u8; 128], l: Link) -> bool
+    ensures { λ r. ⌜ r ≡ sameLabel (now (labels .entry)) l ⌝ }
+{
+    let a = l.a as usize;
+    let b = l.b as usize;
+    if a < 128 {
+        if b < 128 {
+            return labels[a] == labels[b];
+        }
+    }
+    false
+}
+
+// Writes in order the links whose ends carry the same label, and gives their number. Nothing is written past the end of `out`, and the rest of it
+// stays.
+pub fn keep_links(links: &[Link], labels: &[u8; 128], out: &mut [Link]) -> usize
+    ensures { λ r. ⌜ (r ≡ length (keptLinks (now (labels .entry)) (now (links .entry)))) × (now (out .exit) ≡ written (now (out .entry)) (keptLinks (now (labels .entry)) (now (links .entry)))) ⌝ }
+{
+    let count = links.len();
+    let mut kept = 0;
+    let mut i = 0;
+    while i < count {
+        let l = link_at(links, i);
+        if same_label(labels, l) {
+            store_link(out, kept, l);
+            kept += 1;
+        }
+        i += 1;
+    }
+    kept
+}

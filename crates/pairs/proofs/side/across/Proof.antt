@@ -1,0 +1,53 @@
+-- `pairs::side::across` meets its contract. Assumes nothing.
+use mathlib.Core.Path.{sym, _∙_}
+use native.Mathlib.Omega.{arith}
+use borrow.Author.Tests.{eq-eqb, ne-eqb, not-true, not-false}
+use denote.Ref.{now}
+use Rattle.pairs.specs.Side.{heapOf}
+use Rattle.pairs.proofs.Sides.{on-side}
+use borrow.Author.Needs.{needs}
+use Rattle.pairs.proofs.side.across.Statement.{statement}
+use Rattle.pairs.proofs.side.across.Tie as tie
+
+element-copy-out-if1 : tie.Need-element-copy-out-if1
+element-copy-out-if1 c = search needs
+
+in-side-requires : tie.Need-in-side-requires
+in-side-requires c κs = search needs
+
+tally-at-requires : tie.Need-tally-at-requires
+tally-at-requires c κs = search needs
+
+cast-result : tie.Need-cast-result
+cast-result c = search needs
+
+returns : tie.Need-returns
+unfolding heapOf
+returns c =
+    let a = c .before .before .before .before .before .args in
+    let off = sym (on-side (now (a .side)) (a .j) (omega arith) (c .before .before .in-side .ensures)) ∙ not-true _ (c .before .if2 .taken) in
+    (simp (eq-eqb _ _ (c .before .before .before .if1 .taken), off) (c .tally-at .ensures), omega (arith, c .tally-at .ok))
+
+returns-2 : tie.Need-returns-2
+unfolding heapOf
+returns-2 c =
+    let a = c .before .before .before .before .args in
+    let on = sym (on-side (now (a .side)) (a .j) (omega arith) (c .before .in-side .ensures)) ∙ not-false _ (c .if2 .left) in
+    (simp (eq-eqb _ _ (c .before .before .if1 .taken), on), search needs)
+
+returns-3 : tie.Need-returns-3
+unfolding heapOf
+returns-3 c =
+    (simp (ne-eqb _ _ (c .if1 .left)), search needs)
+
+pub across-spec : {M : Type 1} → statement M
+across-spec =
+    tie.close
+    (tie.spec
+    element-copy-out-if1
+    in-side-requires
+    tally-at-requires
+    cast-result
+    returns
+    returns-2
+    returns-3)

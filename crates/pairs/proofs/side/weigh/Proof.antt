@@ -1,0 +1,74 @@
+-- `pairs::side::weigh` meets its contract. The invariant: the total is what the bones below i add, each at most 128 * 2 ^ 32. Assumes nothing.
+use Prim.Native.Nat.{ℕ, _≤_, zero-le, _+_, _*_, _^_, _-_}
+use mathlib.Core.Path.{_≡_, sym, _∙_, ap, ap₂}
+use native.Mathlib.Omega.{arith}
+use borrow.Author.Needs.{needs}
+use denote.Ref.{now}
+use Rattle.meaning.specs.Tally.{weight}
+use Rattle.meaning.specs.Heap.{pile}
+use Rattle.pairs.specs.Table.{held}
+use Rattle.pairs.specs.Side.{heapOf, sideOf}
+use Rattle.pairs.proofs.Sides.{rows, rows-none, rows-next, weight-rows}
+use Rattle.pairs.proofs.side.weigh.Statement.{statement}
+use Rattle.pairs.proofs.side.weigh.Tie as tie
+
+abbrev Inv-loop : tie.InvT-loop
+Inv-loop table names n name side bones total₀ i₀ total i =
+    (i ≤ bones)
+    × (total ≡ rows i bones (held table) (pile bones (heapOf names) name) (sideOf side))
+    × (total ≤ i * (128 * 2 ^ 32))
+
+abbrev μ-loop : tie.MeasureT-loop
+μ-loop table names n name side bones total₀ i₀ total i = bones - i
+
+at-most-128-requires : tie.Need-at-most-128-requires Inv-loop μ-loop
+at-most-128-requires c κs = search needs
+
+loop-holds : tie.Need-loop-holds Inv-loop μ-loop
+loop-holds c = (zero-le, sym (rows-none _ _ _ _), zero-le)
+
+row-requires : tie.Need-row-requires Inv-loop μ-loop
+row-requires c κs = omega arith
+
+add-total : tie.Need-add-total Inv-loop μ-loop
+add-total c = omega (arith, c .row .ensures .1)
+
+add-i : tie.Need-add-i Inv-loop μ-loop
+add-i c = omega arith
+
+loop-less : tie.Need-loop-less Inv-loop μ-loop
+loop-less c = omega arith
+
+loop-again : tie.Need-loop-again Inv-loop μ-loop
+loop-again c =
+    let head = c .before .before .loop in (
+      omega arith,
+      ap₂ _+_ (head .inv .1) (c .row .ensures .0) ∙ sym (rows-next (head .i) _ _ _ _),
+      omega (arith, c .row .ensures .1),
+    )
+
+returns : tie.Need-returns Inv-loop μ-loop
+returns c =
+    let a = c .before .before .before .args in
+    let head = c .before .loop in
+    let bones = c .before .before .at-most-128 in
+    let all : head .i ≡ bones .result = omega arith in
+    head .inv .1
+    ∙ ap (λ (m : ℕ). rows m (bones .result) (held (now (a .table))) (pile (bones .result) (heapOf (now (a .names))) (a .name)) (sideOf (now (a .side)))) all
+    ∙ sym (weight-rows (bones .result) (held (now (a .table))) (pile (bones .result) (heapOf (now (a .names))) (a .name)) (sideOf (now (a .side))))
+    ∙ ap (λ (m : ℕ). weight m (held (now (a .table))) (pile m (heapOf (now (a .names))) (a .name)) (sideOf (now (a .side)))) (bones .ensures)
+
+pub weigh-spec : {M : Type 1} → statement M
+weigh-spec =
+    tie.close
+    (tie.spec
+    Inv-loop
+    μ-loop
+    at-most-128-requires
+    loop-holds
+    row-requires
+    add-total
+    add-i
+    loop-less
+    loop-again
+    returns)

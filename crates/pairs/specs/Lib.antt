@@ -1,0 +1,6 @@
+-- What the promises of the pair table cite.
+pub mod Table
+pub mod Links
+pub mod Side
+pub mod Weigh
+pub mod Marks

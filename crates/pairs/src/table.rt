@@ -1,0 +1,79 @@
+// The pair table: links are judged, and then added to it.
+use crate::links::judge;
+use crate::links::link_at;
+use crate::numbers::wide;
+use meaning::Judged;
+ghost use mathlib.Core.Path.{_≡_};
+ghost use Prim.Native.Nat.{_%_, _<_, _^_};
+ghost use Rattle.meaning.specs.Judge.{first};
+ghost use Rattle.meaning.specs.declared.Judged.the-variants.{Accepted};
+ghost use Rattle.pairs.specs.Links.{linksOf, whole, linksRows, tableRows};
+ghost use Rattle.pairs.specs.Table.{spot, held, added, tallied, filled};
+
+// Where the tally of a pair stands.
+fn spot_of(i: usize, j: usize) -> usize
+    requires { ⌜ (i < 128) × (j < 128) ⌝ }
+    ensures { λ r. ⌜ (r ≡ spot i j) × (r < 16384) ⌝ }
+{
+    if i < j { j * 128 + i } else { i * 128 + j }
+}
+
+// The tally that a table holds for a pair.
+pub(crate) fn tally_at(table: &[u32; 16384], i: usize, j: usize) -> u32
+    requires { ⌜ (i < 128) × (j < 128) ⌝ }
+    ensures { λ r. ⌜ r ≡ held (now (table .entry)) i j ⌝ }
+{
+    let at = spot_of(i, j);
+    table[at]
+}
+
+// The same for any two numbers, each taken below 128.
+pub fn tally_between(table: &[u32; 16384], i: usize, j: usize) -> u64
+    ensures { λ r. ⌜ (r ≡ held (now (table .entry)) (i % 128) (j % 128)) × (r < 2 ^ 32) ⌝ }
+{
+    wide(tally_at(table, i % 128, j % 128))
+}
+
+// One link added; a sum past 32 bits loses its carry.
+pub(crate) fn add_link(table: &mut [u32; 16384], a: u8, b: u8, tally: u16)
+    requires { ⌜ (a < 128) × (b < 128) ⌝ }
+    ensures { λ _. ⌜ now (table .exit) ≡ added (now (table .entry)) (record { a = a; b = b; tally = tally }) ⌝ }
+{
+    let at = spot_of(a as usize, b as usize);
+    table[at] = std::num::wrapping_add_u32(table[at], tally as u32);
+}
+
+// The same for any link, its ends taken below 128.
+pub fn add_within(table: &mut [u32; 16384], a: u8, b: u8, tally: u16)
+    ensures { λ _. ⌜ now (table .exit) ≡ added (now (table .entry)) (record { a = a % 128; b = b % 128; tally = tally }) ⌝ }
+{
+    add_link(table, a % 128, b % 128, tally);
+}
+
+// Every link of a run of bytes added. They were judged: no end is 128 or more.
+fn add_links(links: &[u8], table: &mut [u32; 16384])
+    requires { ⌜ first (linksRows 128 0 (linksOf (now links))) ≡ Accepted ⌝ }
+    ensures { λ _. ⌜ now (table .exit) ≡ tallied (now (table .entry)) (linksOf (now (links .entry))) ⌝ }
+{
+    let count = links.len() / 4;
+    let mut i = 0;
+    while i < count {
+        let l = link_at(links, i);
+        add_link(table, l.a, l.b, l.tally);
+        i += 1;
+    }
+}
+
+// Judges n, k and links lent as bytes, four a link, and adds the links to the table; where they are refused it stays as it was.
+pub fn fill(n: u64, k: u64, links: &[u8], table: &mut [u32; 16384]) -> Judged
+    ensures { λ r. ⌜ r ≡ first (tableRows n k (whole (now (links .entry))) (linksOf (now (links .entry)))) ⌝ }
+    ensures { λ r. ⌜ now (table .exit) ≡ filled r (now (table .entry)) (linksOf (now (links .entry))) ⌝ }
+{
+    match judge(n, k, links) {
+        Judged::Accepted => {
+            add_links(links, table);
+            Judged::Accepted
+        }
+        Judged::Refused { number, place } => Judged::Refused { number, place },
+    }
+}

@@ -1,0 +1,7 @@
+-- What the reader's promises cite.
+pub mod Frame
+pub mod Lines
+pub mod Reader
+pub mod Walk
+pub mod Judging
+pub mod Storing

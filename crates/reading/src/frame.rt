@@ -1,0 +1,191 @@
+// Frames: how many payload bytes a kind has, digits and the byte that a pair of them means, and the sum of a frame's bytes.
+ghost use mathlib.Core.Path.{_≡_};
+ghost use mathlib.Core.Bool.{cond, _&&_};
+ghost use Prim.Native.Nat.{_+_, _*_, _≤_};
+ghost use lib.Dec.{T, ltb};
+ghost use lib.ListN.{getD, length, drop};
+ghost use Rattle.reading.specs.Frame.{payloads, valueOf};
+ghost use Rattle.reading.specs.Walk.{pairOf, kindOf, byteAt, digitsAt, Well, Found, SizeFound, Summed};
+
+// The frame at a place of a text: how many bytes it has, its kind and the sum of its bytes. No well formed line there: the size is nought.
+pub(crate) struct Frame {
+    pub size: usize,
+    pub kind: usize,
+    pub sum: usize,
+}
+
+// The payload's length by kind; there is no kind 00.
+const PAYLOADS: [u8; 8] = [0, 3, 4, 21, 2, 16, 2, 3];
+
+// The length of a kind's payload, nought where there is no such kind. Most frames are links: where the next line starts is then known without
+// waiting for the table.
+pub(crate) fn payload(kind: usize) -> usize
+    ensures { λ r. ⌜ r ≡ getD payloads kind 0 ⌝ }
+{
+    if kind == 2 {
+        return wide(PAYLOADS[2]);
+    }
+    if kind < 8 { wide(PAYLOADS[kind]) } else { 0 }
+}
+
+// The digit that a character is, 16 where it is none. What is below a digit wraps round to a great number, so each run of digits is one test.
+pub(crate) fn value(c: u8) -> u8
+    ensures { λ r. ⌜ r ≡ valueOf c ⌝ }
+{
+    let low = std::num::wrapping_sub_u8(c, 48);
+    let high = std::num::wrapping_sub_u8(c, 97);
+    if low < 10 {
+        return low;
+    }
+    if high < 6 {
+        return high + 10;
+    }
+    16
+}
+
+// The byte that two characters mean, 256 where they are not both digits.
+pub(crate) fn pair(high: u8, low: u8) -> usize
+    ensures { λ r. ⌜ r ≡ pairOf high low ⌝ }
+{
+    let h = value(high);
+    let l = value(low);
+    if h < 16 {
+        if l < 16 {
+            return wide(h) * 16 + wide(l);
+        }
+    }
+    256
+}
+
+// The kind that the first two characters of a line mean, nought where there is no such kind. Every kind has a 0 in front.
+fn kind_of(high: u8, low: u8) -> usize
+    ensures { λ r. ⌜ r ≡ kindOf high low ⌝ }
+{
+    let kind = std::num::wrapping_sub_u8(low, 48);
+    if high != 48 {
+        return 0;
+    }
+    if kind < 8 { wide(kind) } else { 0 }
+}
+
+fn wide(x: u8) -> usize
+    ensures { λ r. ⌜ r ≡ x ⌝ }
+{
+    x as usize
+}
+
+// How many bytes the frame at a place has, where there is such a kind, room for its line, and a line feed at its end; else nought.
+fn size_at(text: &[u8], at: usize) -> usize
+    ensures { λ r. ⌜ SizeFound (drop at (now (text .entry))) r ⌝ }
+{
+    let end = text.len();
+    if end <= at {
+        return 0;
+    }
+    if end - at <= 2 {
+        return 0;
+    }
+    let kind = kind_of(text[at], text[at + 1]);
+    if kind == 0 {
+        return 0;
+    }
+    let size = payload(kind) + 2;
+    if end - at <= 2 * size {
+        return 0;
+    }
+    if text[at + 2 * size] != 10 {
+        return 0;
+    }
+    size
+}
+
+// The kind of the frame at a place.
+pub(crate) fn kind_at(text: &[u8], at: usize) -> usize
+    requires { ⌜ Well (drop at (now text)) ⌝ }
+    ensures { λ r. ⌜ r ≡ byteAt (drop at (now (text .entry))) 0 ⌝ }
+{
+    kind_of(text[at], text[at + 1])
+}
+
+// The sum of the bytes at a place, added as bytes with the carry thrown away; 256 where they are not all written in digits. Every byte is looked at,
+// since a loop that does not stop early is quicker.
+fn add_bytes(text: &[u8], at: usize, size: usize) -> usize
+    requires { ⌜ at + 2 * size ≤ length (now text) ⌝ }
+    ensures { λ r. ⌜ Summed (drop at (now (text .entry))) size r ⌝ }
+{
+    let mut sum: u8 = 0;
+    let mut bad = 0;
+    let mut i = 0;
+    while i < size {
+        let byte = pair(text[at + 2 * i], text[at + 2 * i + 1]);
+        bad += byte / 256;
+        sum = std::num::wrapping_add_u8(sum, (byte % 256) as u8);
+        i += 1;
+    }
+    if bad == 0 { wide(sum) } else { 256 }
+}
+
+// The same. Most frames are links, and a loop over so many bytes as are known beforehand is quicker.
+fn sum_at(text: &[u8], at: usize, size: usize) -> usize
+    requires { ⌜ at + 2 * size ≤ length (now text) ⌝ }
+    ensures { λ r. ⌜ Summed (drop at (now (text .entry))) size r ⌝ }
+{
+    if size == 6 {
+        return add_bytes(text, at, 6);
+    }
+    add_bytes(text, at, size)
+}
+
+// The frame at a place of a text.
+pub(crate) fn frame_at(text: &[u8], at: usize) -> Frame
+    ensures { λ r. ⌜ Found (drop at (now (text .entry))) r ⌝ }
+{
+    let size = size_at(text, at);
+    if size == 0 {
+        return Frame {
+            size: 0,
+            kind: 0,
+            sum: 0,
+        };
+    }
+    let sum = sum_at(text, at, size);
+    if 256 <= sum {
+        return Frame {
+            size: 0,
+            kind: 0,
+            sum: 0,
+        };
+    }
+    let kind = kind_at(text, at);
+    Frame {
+        size: size,
+        kind: kind,
+        sum: sum,
+    }
+}
+
+// The byte that the i-th pair at a place means.
+pub(crate) fn byte_at(text: &[u8], at: usize, i: usize) -> u8
+    requires { ⌜ (at + 2 * i + 2 ≤ length (now text)) × T (digitsAt (drop at (now text)) i) ⌝ }
+    ensures { λ r. ⌜ r ≡ byteAt (drop at (now (text .entry))) i ⌝ }
+{
+    let high = value(text[at + 2 * i]);
+    let low = value(text[at + 2 * i + 1]);
+    high * 16 + low
+}
+
+// The number that two bytes give, high byte first.
+pub(crate) fn number_at(text: &[u8], at: usize, i: usize) -> u16
+    requires { ⌜ (at + 2 * i + 4 ≤ length (now text)) × T (digitsAt (drop at (now text)) i) × T (digitsAt (drop at (now text)) (i + 1)) ⌝ }
+    ensures { λ r. ⌜ r ≡ byteAt (drop at (now (text .entry))) i * 256 + byteAt (drop at (now (text .entry))) (i + 1) ⌝ }
+{
+    let high = byte_at(text, at, i);
+    let low = byte_at(text, at, i + 1);
+    long(high) * 256 + long(low)
+}
+
+fn long(x: u8) -> u16
+    ensures { λ r. ⌜ r ≡ x ⌝ }
+{
+    x as u16
+}

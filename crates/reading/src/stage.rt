@@ -1,0 +1,79 @@
+// How far an input text has come: which frames may follow, and where they lead.
+ghost use mathlib.Core.Path.{_≡_};
+ghost use Rattle.reading.specs.Lines.{follows, after, open-at};
+
+// Nothing yet; after the head; after the first cut; after the close.
+pub enum Stage {
+    Opening,
+    Linking,
+    Cutting,
+    Closed,
+}
+
+// Whether a frame of that kind may stand there: head; links and notes; cuts and notes; close; nothing after.
+pub(crate) fn may_follow(stage: Stage, kind: usize) -> bool
+    ensures { λ r. ⌜ r ≡ follows stage kind ⌝ }
+{
+    match stage {
+        Stage::Opening => kind == 1,
+        Stage::Linking => {
+            if kind == 2 {
+                return true;
+            }
+            if kind == 3 {
+                return true;
+            }
+            if kind == 5 {
+                return true;
+            }
+            kind == 6
+        }
+        Stage::Cutting => {
+            if kind == 3 {
+                return true;
+            }
+            if kind == 5 {
+                return true;
+            }
+            kind == 6
+        }
+        Stage::Closed => false,
+    }
+}
+
+// How far the text has come after it.
+pub(crate) fn stage_after(stage: Stage, kind: usize) -> Stage
+    ensures { λ r. ⌜ r ≡ after stage kind ⌝ }
+{
+    match stage {
+        Stage::Opening => Stage::Linking,
+        Stage::Linking => {
+            if kind == 6 {
+                return Stage::Closed;
+            }
+            if kind == 3 {
+                return Stage::Cutting;
+            }
+            Stage::Linking
+        }
+        Stage::Cutting => {
+            if kind == 6 {
+                return Stage::Closed;
+            }
+            Stage::Cutting
+        }
+        Stage::Closed => Stage::Closed,
+    }
+}
+
+// Whether the close is still to come.
+pub(crate) fn is_open(stage: Stage) -> bool
+    ensures { λ r. ⌜ r ≡ open-at stage ⌝ }
+{
+    match stage {
+        Stage::Opening => true,
+        Stage::Linking => true,
+        Stage::Cutting => true,
+        Stage::Closed => false,
+    }
+}

@@ -1,0 +1,2 @@
+-- The laws behind the walk.
+mod Locals

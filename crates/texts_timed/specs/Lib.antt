@@ -1,0 +1,2 @@
+-- What is promised of the longest text, read and written again.
+pub mod Again
