@@ -20,7 +20,7 @@ void _exit(int);
 enum { MOST_ASKED = 1 << 20, MOST_ANSWERED = 1 << 24, LENGTH = 8 };
 
 /* No question takes near this many seconds; when they have passed, the alarm ends the process. */
-enum { PATIENCE = 30 };
+enum { PATIENCE = 10 };
 
 static uint8_t asked[MOST_ASKED], answered[MOST_ANSWERED];
 

@@ -7,7 +7,7 @@ use std::path::{Path, PathBuf};
 use std::process::{Command, Stdio};
 
 /// No text takes near this many seconds.
-const PATIENCE: &str = "30";
+const PATIENCE: &str = "10";
 
 pub enum Program {
     Served(Server),
