@@ -22,6 +22,7 @@ use Rattle.pairs.specs.Side.{heapOf}
 use Rattle.growing.specs.Blocks.{reaches, taken, untaken, BlockNames, Kept, LightSide}
 use Rattle.pairs.specs.Marks.{marked, Filled}
 use Rattle.growing.specs.Grow.{beside, degree, Undivided, joined, Added, Weighed, Spread, Measured, AllByTwo, LightMarks, Reached, Known}
+use Rattle.growing.specs.Members.{Rising}
 use Rattle.growing.proofs.Adjacency.{untaken-weight}
 use Rattle.growing.proofs.Merging.{weight-on, splits-on, kept-single}
 use Rattle.pairs.proofs.Filling.{cond-yes, cond-no, zeros}
@@ -67,15 +68,16 @@ beside-not : (S : Bones) (p : ℕ) → T (beside S p p) → ⊥
 unfolding beside
 beside-not S p t = T-not (eqb p p) (right-of (S p) (not (eqb p p)) t) (eq→eqb p p refl)
 
--- ---- degrees that are noted, one bone more: it is free, or it is not
-pub weighed-more : (n : ℕ) (w : Tally) (k : ℕ) (S free : Bones) (degrees : List ℕ) (b d : ℕ) → length degrees ≡ 128 → b < 128 → ((y : ℕ) → y < b → T (free y) → Weighed n w k S degrees y) → d ≡ degree n w S b → k ≤ d → d ≤ 2 ^ 39 → (y : ℕ) → y < b + 1 → T (free y) → Weighed n w k S (set degrees b d) y
-weighed-more n w k S free degrees b d long small sofar e heavy low =
-    below-more (λ y. T (free y) → Weighed n w k S (set degrees b d) y) b
-    (λ y h t. let q = getD-set-other degrees b y d 0 (λ z. omega arith) in record { noted = q ∙ sofar y h t .noted; heavy = omega (arith, q, sofar y h t .heavy); small = omega (arith, q, sofar y h t .small) })
-    (λ t. let q = getD-set-same degrees b d 0 (omega arith) in record { noted = q ∙ e; heavy = omega arith; small = omega arith })
+-- ---- degrees that are noted, one place more: its bone is free, or it is not
+module _ (n : ℕ) (w : Tally) (k : ℕ) (S free : Bones) (who : List ℕ) (m i : ℕ) (degrees : List ℕ) (sofar : (j : ℕ) → j < i → T (free (getD who j 0)) → Weighed n w k S degrees (getD who j 0)) where
+  pub weighed-more : (b d : ℕ) → Rising who m → i < m → b ≡ getD who i 0 → length degrees ≡ 128 → d ≡ degree n w S (getD who i 0) → k ≤ d → d ≤ 2 ^ 39 → (j : ℕ) → j < i + 1 → T (free (getD who j 0)) → Weighed n w k S (set degrees b d) (getD who j 0)
+  weighed-more b d rising here e long noted heavy low =
+      below-more (λ j. T (free (getD who j 0)) → Weighed n w k S (set degrees b d) (getD who j 0)) i
+      (λ j h t. let q = getD-set-other degrees b (getD who j 0) d 0 (λ z. omega (arith, z, e, rising .order j i h here)) in record { noted = q ∙ sofar j h t .noted; heavy = omega (arith, q, sofar j h t .heavy); small = omega (arith, q, sofar j h t .small) })
+      (λ t. let q : getD (set degrees b d) (getD who i 0) 0 ≡ d = ap (λ (z : ℕ). getD (set degrees b d) z 0) (sym e) ∙ getD-set-same degrees b d 0 (omega (arith, e, long, rising .low i here)) in record { noted = q ∙ noted; heavy = omega (arith, q, heavy); small = omega (arith, q, low) })
 
-pub weighed-shut : (n : ℕ) (w : Tally) (k : ℕ) (S free : Bones) (degrees : List ℕ) (b : ℕ) → ((y : ℕ) → y < b → T (free y) → Weighed n w k S degrees y) → T (not (free b)) → (y : ℕ) → y < b + 1 → T (free y) → Weighed n w k S degrees y
-weighed-shut n w k S free degrees b sofar shut = below-more (λ y. T (free y) → Weighed n w k S degrees y) b sofar (λ t. absurd (T-not (free b) shut t))
+  pub weighed-shut : T (not (free (getD who i 0))) → (j : ℕ) → j < i + 1 → T (free (getD who j 0)) → Weighed n w k S degrees (getD who j 0)
+  weighed-shut shut = below-more (λ j. T (free (getD who j 0)) → Weighed n w k S degrees (getD who j 0)) i sofar (λ t. absurd (T-not (free (getD who i 0)) shut t))
 
 -- ---- the start
 module _ (n : ℕ) (w : Tally) (symmetric : Symmetric w) (k : ℕ) (S : Bones) (p : ℕ) (below : (b : ℕ) → T (S b) → b < n) (most : n ≤ 128) (standing : T (S p)) (free : List ℕ) (marks : (x : ℕ) → marked free x ≡ beside S p x) where

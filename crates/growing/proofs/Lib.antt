@@ -5,6 +5,7 @@ pub mod Merging
 pub mod Growing
 pub mod Seen
 pub mod GrowRows
+pub mod MembersListed
 pub mod Sending
 pub mod Threes
 pub mod GrowState

@@ -2,4 +2,5 @@
 pub mod Blocks
 pub mod Grow
 pub mod Listing
+pub mod Members
 pub mod Three

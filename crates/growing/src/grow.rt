@@ -1,6 +1,8 @@
 // Growing a set from a pile's least bone, before any pass: no light split of the pile need divide it. Bones join it one by one while a rule
 // allows; most piles are settled so, and what is left goes to the passes as one large block and single bones.
 use crate::all::all_tied;
+use crate::members::degree_in;
+use crate::members::list_members;
 use crate::row::add_row;
 use crate::row::degree_of;
 use crate::tied::choose;
@@ -10,11 +12,12 @@ ghost use mathlib.Core.Bool.{true, false, cond, not};
 ghost use Prim.Native.Nat.{ℕ, _<_, _≤_, _^_};
 ghost use lib.Dec.{T, eqb};
 ghost use lib.ListN.{length, replicate};
-ghost use Rattle.meaning.specs.Count.{count};
+ghost use Rattle.meaning.specs.Count.{Bones, count};
 ghost use Rattle.meaning.specs.Heap.{pile, stands};
 ghost use Rattle.pairs.specs.Table.{held};
 ghost use Rattle.pairs.specs.Side.{heapOf};
 ghost use Rattle.pairs.specs.Marks.{marked, Filled};
+ghost use Rattle.growing.specs.Members.{Rising, Members};
 ghost use Rattle.growing.specs.Grow.{seen, beside, degree, joined, Weighed, Lone, Reached, Known};
 
 // Whether bone b is in the pile and is not p: 1 if so, else 0.
@@ -45,22 +48,23 @@ fn free_others(names: &[u8; 128], n: usize, p: usize, free: &mut [u8; 128]) -> u
     left
 }
 
-// The first free bone that is a light side by itself, 128 where there is none. Degrees are noted on the way.
+// The first free bone that is a light side by itself, 128 where there is none. Degrees are noted on the way. The first m of `who` are the
+// bones of the pile, in order.
 fn first_light(
     table: &[u32; 16384],
-    names: &[u8; 128],
+    who: &[u8; 128],
+    m: usize,
     free: &[u8; 128],
-    n: usize,
     k: u64,
-    p: usize,
     degrees: &mut [u64; 128],
 ) -> usize
-    requires { ⌜ (n ≤ 128) × (length (now degrees) ≡ 128) ⌝ }
-    ensures { λ r. ⌜ Lone n (held (now (table .entry))) k (pile n (heapOf (now (names .entry))) p) (marked (now (free .entry))) (now (degrees .exit)) r ⌝ }
+    requires { ⌜ Rising (now who) m × (length (now degrees) ≡ 128) ⌝ }
+    ensures { λ r. ⌜ ((n : ℕ) → (S : Bones) → Members S (now (who .entry)) m n → ((x : ℕ) → T (marked (now (free .entry)) x) → T (S x)) → Lone n (held (now (table .entry))) k S (marked (now (free .entry))) (now (degrees .exit)) r) ⌝ }
 {
-    for b in 0..n {
+    for i in 0..m {
+        let b = bone(who[i]);
         if free[b] == 1 {
-            let degree = degree_of(table, names, n, p, b);
+            let degree = degree_in(table, who, m, i);
             degrees[b] = degree;
             if degree < k {
                 return b;
@@ -254,8 +258,10 @@ fn grow_pile(
             weight: 0,
         };
     }
+    let mut who = [0u8; 128];
+    let m = list_members(names, n, p, &mut who);
     let mut degrees = [0u64; 128];
-    let lone = first_light(table, names, free, n, k, p, &mut degrees);
+    let lone = first_light(table, &who, m, free, k, &mut degrees);
     if lone < 128 {
         mark_only(n, lone, free);
         return Outcome {

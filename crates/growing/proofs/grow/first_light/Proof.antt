@@ -1,67 +1,77 @@
--- `growing::grow::first_light` meets its contract: the degrees of the free bones below b are noted, and are k or more.
+-- `growing::grow::first_light` meets its contract: the degrees of the free bones in the places before i are noted, and are k or more.
 -- Assumes nothing.
 use Prim.Native.Nat.{ℕ, zero-le, _+_, _-_, _≤_, _<_}
 use mathlib.Core.Path.{_≡_, refl, sym, _∙_, ap, subst}
 use mathlib.Core.Logic.{⊎-elim}
+use mathlib.Core.Bool.{not}
 use mathlib.Core.List.{List}
 use native.Mathlib.Nat.{not-suc-le-zero}
 use native.Mathlib.Omega.{arith}
 use lib.Dec.{T, T-not}
-use lib.ListN.{length, set, length-set}
+use lib.ListN.{length, getD, set, length-set}
 use lib.Seq.{getD-set-same}
-use Rattle.meaning.specs.Heap.{pile}
+use Rattle.meaning.specs.Count.{Bones}
 use Rattle.meaning.proofs.Tests.{eq→eqb, ne→neqb}
 use Rattle.pairs.specs.Table.{held}
-use Rattle.pairs.specs.Side.{heapOf}
 use Rattle.pairs.specs.Marks.{marked}
-use Rattle.growing.specs.Grow.{Weighed, Lone}
+use Rattle.growing.specs.Grow.{degree, Weighed, Lone}
+use Rattle.growing.specs.Members.{Members}
 use Rattle.growing.proofs.GrowEnds.{weighed-more, weighed-shut}
 use Rattle.growing.proofs.grow.first_light.Statement.{statement}
 use Rattle.growing.proofs.grow.first_light.Tie as tie
 use Rattle.growing.proofs.grow.first_light.Reads as reads
 use Rattle.growing.proofs.grow.first_light.Lts as lts
-use Rattle.growing.proofs.row.degree_of.Reads as degree-of-reads
+use Rattle.growing.proofs.members.degree_in.Reads as degree-in-reads
+use Rattle.pairs.proofs.numbers.bone.Reads as bone-reads
 
 abbrev Inv-loop : tie.InvT-loop
-Inv-loop table names free n k p degrees₀ b₀ degrees b =
-    (b ≤ n)
+Inv-loop table who m free k degrees₀ i₀ degrees i =
+    (i ≤ m)
     × (length degrees ≡ 128)
-    × ((y : ℕ) → y < b → T (marked free y) → Weighed n (held table) k (pile n (heapOf names) p) degrees y)
+    × ((n : ℕ) (S : Bones) → Members S who m n → (j : ℕ) → j < i → T (marked free (getD who j 0)) → Weighed n (held table) k S degrees (getD who j 0))
 
 abbrev μ-loop : tie.MeasureT-loop
-μ-loop table names free n k p degrees₀ b₀ degrees b = n - b
+μ-loop table who m free k degrees₀ i₀ degrees i = m - i
 
 loop-holds : tie.Need-loop-holds Inv-loop μ-loop
-loop-holds c = (zero-le, c .pre .1, λ y h. absurd (not-suc-le-zero h))
+loop-holds c = (zero-le, c .pre .1, λ n S members y h. absurd (not-suc-le-zero h))
+
+element-copy-out-bone : tie.Need-element-copy-out-bone Inv-loop μ-loop
+element-copy-out-bone c = omega (arith, c .before .before .pre .0 .few)
+
+bone-requires : tie.Need-bone-requires Inv-loop μ-loop
+bone-requires c κs = tt
 
 element-copy-out-if1 : tie.Need-element-copy-out-if1 Inv-loop μ-loop
-element-copy-out-if1 c = omega arith
+element-copy-out-if1 c = omega (arith, c .bone .ensures .0, c .before .before .before .before .pre .0 .low (c .before .before .before .loop .i) (omega arith))
 
-degree-of-requires : tie.Need-degree-of-requires Inv-loop μ-loop
-degree-of-requires c κs = omega arith
+degree-in-requires : tie.Need-degree-in-requires Inv-loop μ-loop
+degree-in-requires c κs = (omega arith, c .before .before .before .before .before .before .pre .0)
 
 mul-degrees : tie.Need-mul-degrees Inv-loop μ-loop
-mul-degrees c = omega arith
+mul-degrees c = omega (arith, c .before .before .before .bone .ensures .1)
 
 element-write-degrees : tie.Need-element-write-degrees Inv-loop μ-loop
-element-write-degrees c = omega arith
+element-write-degrees c = omega (arith, c .before .before .before .bone .ensures .0, c .before .before .before .before .before .before .before .pre .0 .low (c .before .before .before .before .before .before .loop .i) (omega arith))
 
 returns : tie.Need-returns Inv-loop μ-loop
 unfolding marked
 returns c =
-    let l = c .before .before .before .before .before .loop in
-    let d = c .before .degree-of in
-    let here = getD-set-same (l .degrees) (l .b) (d .result) 0 (omega arith) in
-    record {
-      long = length-set (l .degrees) (l .b) (d .result) ∙ l .inv .1;
+    let s = c .before .before .before .before .before .before .before .before in
+    let l = c .before .before .before .before .before .before .before .loop in
+    let b = c .before .before .before .before .bone in
+    let d = c .before .degree-in in
+    let here = getD-set-same (l .degrees) (b .result) (d .result) 0 (omega (arith, l .inv .1, b .ensures .0, s .pre .0 .low (l .i) (omega arith))) in
+    λ n S members inside. record {
+      long = length-set (l .degrees) (b .result) (d .result) ∙ l .inv .1;
       one = λ h. eq→eqb _ 1 (c .before .before .if1 .taken);
-      noted = λ h. here ∙ d .ensures .0;
+      noted = λ h. here ∙ d .ensures .0 n S members ∙ sym (ap (degree n (held (s .args .table .now)) S) (b .ensures .0));
       light = λ h. omega (arith, here, c .if2 .taken);
-      none = λ h. absurd (omega arith);
+      none = λ h. absurd (omega (arith, h, b .ensures .0, s .pre .0 .low (l .i) (omega arith)));
     }
 
-add-b : tie.Need-add-b Inv-loop μ-loop
-add-b c = omega arith
+add-i : tie.Need-add-i Inv-loop μ-loop
+add-i c = omega (arith, c .before .before .before .before .before .before .pre .0 .few)
 
 loop-less : tie.Need-loop-less Inv-loop μ-loop
 loop-less c = omega arith
@@ -69,33 +79,38 @@ loop-less c = omega arith
 loop-again : tie.Need-loop-again Inv-loop μ-loop
 unfolding marked
 loop-again c =
-    let l = c .before .before .before .loop in
-    let s = c .before .before .before .before in
-    let S = pile (s .args .n) (heapOf (s .args .names .now)) (s .args .p) in
+    let s = c .before .before .before .before .before .before in
+    let l = c .before .before .before .before .before .loop in
+    let b = c .before .before .bone in
+    let weighed : List ℕ → Type 0 = λ d. (n : ℕ) (S : Bones) → Members S (s .args .who .now) (s .args .m) n → (j : ℕ) → j < l .i + 1 → T (marked (s .args .free .now) (getD (s .args .who .now) j 0)) → Weighed n (held (s .args .table .now)) (s .args .k) S d (getD (s .args .who .now) j 0) in
     ⊎-elim
     (λ w. (
       omega arith,
-      ap length (w .3) ∙ length-set (l .degrees) (l .b) (w .1 .result) ∙ l .inv .1,
-      subst (λ (d : List ℕ). (y : ℕ) → y < l .b + 1 → T (marked (s .args .free .now) y) → Weighed (s .args .n) (held (s .args .table .now)) (s .args .k) S d y) (sym (w .3))
-          (weighed-more (s .args .n) (held (s .args .table .now)) (s .args .k) S (marked (s .args .free .now)) (l .degrees) (l .b) (w .1 .result) (l .inv .1) (omega arith) (l .inv .2) (w .1 .ensures .0) (w .2 .left) (w .1 .ensures .1)),
+      ap length (w .3) ∙ length-set (l .degrees) (b .result) (w .1 .result) ∙ l .inv .1,
+      subst weighed (sym (w .3))
+          (λ n S members. weighed-more n (held (s .args .table .now)) (s .args .k) S (marked (s .args .free .now)) (s .args .who .now) (s .args .m) (l .i) (l .degrees) (l .inv .2 n S members) (b .result) (w .1 .result) (s .pre .0) (omega arith) (b .ensures .0) (l .inv .1) (w .1 .ensures .0 n S members) (w .2 .left) (w .1 .ensures .1)),
     ))
     (λ w. (
       omega arith,
       ap length (w .1) ∙ l .inv .1,
-      subst (λ (d : List ℕ). (y : ℕ) → y < l .b + 1 → T (marked (s .args .free .now) y) → Weighed (s .args .n) (held (s .args .table .now)) (s .args .k) S d y) (sym (w .1))
-          (weighed-shut (s .args .n) (held (s .args .table .now)) (s .args .k) S (marked (s .args .free .now)) (l .degrees) (l .b) (l .inv .2) (ne→neqb _ 1 (w .0 .left))),
+      subst weighed (sym (w .1))
+          (λ n S members. weighed-shut n (held (s .args .table .now)) (s .args .k) S (marked (s .args .free .now)) (s .args .who .now) (s .args .m) (l .i) (l .degrees) (l .inv .2 n S members) (subst (λ (z : ℕ). T (not (marked (s .args .free .now) z))) (b .ensures .0) (ne→neqb _ 1 (w .0 .left)))),
     ))
     (c .if1 .came)
 
 returns-2 : tie.Need-returns-2 Inv-loop μ-loop
 returns-2 c =
+    let s = c .before .before in
     let l = c .before .loop in
-    record {
+    let done : l .i ≡ s .args .m = omega arith in
+    λ n S members inside. record {
       long = l .inv .1;
       one = λ h. absurd (omega arith);
       noted = λ h. absurd (omega arith);
       light = λ h. absurd (omega arith);
-      none = λ h y g t. l .inv .2 y (omega arith) t;
+      none = λ h b g t.
+          let r = members .all b g (inside b t) in
+          subst (Weighed n (held (s .args .table .now)) (s .args .k) S (l .degrees)) (r .2) (l .inv .2 n S members (r .0) (omega (arith, r .1, done)) (subst (λ (z : ℕ). T (marked (s .args .free .now) z)) (sym (r .2)) t));
     }
 
 pub first-light-spec : {M : Type 1} → statement M
@@ -105,12 +120,14 @@ first-light-spec =
     Inv-loop
     μ-loop
     loop-holds
+    element-copy-out-bone
+    bone-requires
     element-copy-out-if1
-    degree-of-requires
+    degree-in-requires
     mul-degrees
     element-write-degrees
     returns
-    add-b
+    add-i
     loop-less
     loop-again
     returns-2)
