@@ -1,0 +1,9 @@
+-- The laws behind the program's answer, and the theorems about it.
+pub mod Fitting
+pub mod AfterGroup
+pub mod AfterRead
+pub mod Locals
+pub mod AnswerRow
+pub mod Calls
+pub mod ReadingRow
+pub mod Theorems

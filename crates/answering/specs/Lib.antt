@@ -1,0 +1,3 @@
+-- What the program's promise cites.
+pub mod Prints
+pub mod Steps

@@ -1,0 +1,116 @@
+// The program's one function, from bytes to bytes: an input text is read, its bones are grouped, and the result text is written; or the first refusal's
+// frame, alone. The functions over link records are proved by hand, so each only lends, and goes by one answer; numbers are left to covered ones.
+use cutting::Answer;
+use cutting::grouping_records;
+use heaps::record::Record;
+use meaning::Link;
+use reading::Reading;
+use reading::reader::read;
+use texts::Written;
+use texts::refusal::write_refusal;
+use texts::result::write_result;
+ghost use mathlib.Core.Path.{_≡_};
+ghost use Prim.Native.Nat.{_*_, _-_};
+ghost use lib.ListN.{length};
+ghost use Rattle.meaning.specs.Judge.{first};
+ghost use Rattle.heaps.specs.Record.{entrySize};
+ghost use Rattle.answering.specs.Prints.{groupedRows, Answers, Answering};
+ghost use Rattle.answering.specs.Steps.{Framed, Refuses, Held, AfterReading, Ready, AfterGrouping};
+
+// The frame of a refusal.
+fn refuse(number: u32, place: u32, out: &mut [u8]) -> Written
+    requires { ⌜ Framed number place ⌝ }
+    ensures { λ r. ⌜ Refuses number place (now (out .entry)) (now (out .exit)) r ⌝ }
+{
+    write_refusal(number as u8, place as u16, out)
+}
+
+// The bytes of so many entries.
+fn size_of(cuts: u32) -> usize
+    ensures { λ r. ⌜ r ≡ cuts * entrySize ⌝ }
+{
+    cuts as usize * Record::ENTRY
+}
+
+// The bytes of a finished run's record: one cut fewer than groups.
+fn size_of_run(groups: u32) -> usize
+    ensures { λ r. ⌜ r ≡ (groups - 1) * entrySize ⌝ }
+{
+    if groups == 0 {
+        return 0;
+    }
+    size_of(groups - 1)
+}
+
+// After grouping: its refusal, or the result text of the record that it left.
+fn after_grouping(
+    grouped: Answer,
+    n: u64,
+    k: u64,
+    links: &[Link],
+    space: &[u8],
+    out: &mut [u8],
+) -> Written
+    requires { ⌜ Ready grouped (length (now space)) ⌝ }
+    ensures { λ r. ⌜ AfterGrouping grouped n k (now (links .entry)) (now (space .entry)) (now (out .entry)) (now (out .exit)) r ⌝ }
+{
+    match grouped {
+        Answer::Refused { number, place } => refuse(number, place, out),
+        Answer::Gave { count, finished: _ } => {
+            let end = size_of_run(count);
+            write_result(n, k, links, &space[..end], out)
+        }
+    }
+}
+
+// Groups the bones of what was read, and writes the result text or the refusal.
+fn group_read(n: u64, k: u64, links: &[Link], given: &[u8], out: &mut [u8]) -> Written
+    ensures { λ r. ⌜ Answers (first (groupedRows n k (now (links .entry)) (now (given .entry)))) n k (now (links .entry)) (now (given .entry)) (now (out .entry)) (now (out .exit)) r ⌝ }
+{
+    let mut labels = [0u8; 128];
+    let mut space = [0u8; 2667];
+    let grouped = grouping_records(n, k, links, given, &mut labels, &mut space);
+    after_grouping(grouped, n, k, links, &space, out)
+}
+
+// After reading: its refusal, or the groups of what was read.
+fn after_reading(reading: Reading, links: &[Link], space: &[u8], out: &mut [u8]) -> Written
+    requires { ⌜ Held reading (length (now links)) (length (now space)) ⌝ }
+    ensures { λ r. ⌜ AfterReading reading (now (links .entry)) (now (space .entry)) (now (out .entry)) (now (out .exit)) r ⌝ }
+{
+    match reading {
+        Reading::Refused { number, place } => refuse(number, place, out),
+        Reading::Got {
+            n,
+            k,
+            links: count,
+            cuts,
+        } => {
+            let links_end = count as usize;
+            let space_end = size_of(cuts);
+            group_read(
+                n as u64,
+                k as u64,
+                &links[..links_end],
+                &space[..space_end],
+                out,
+            )
+        }
+    }
+}
+
+// Answers an input text: what the program prints for it, at the front of the space lent, and how many bytes that is. Where the space is too short,
+// refusal 20, and it stays as it was.
+pub fn answer(input: &[u8], out: &mut [u8]) -> Written
+    ensures { λ r. ⌜ Answering (now (input .entry)) (now (out .entry)) (now (out .exit)) r ⌝ }
+{
+    let none = Link {
+        a: 0,
+        b: 0,
+        tally: 0,
+    };
+    let mut links = [none; 4096];
+    let mut space = [0u8; 2667];
+    let reading = read(input, &mut links, &mut space);
+    after_reading(reading, &links, &space, out)
+}

@@ -1,0 +1,23 @@
+// The program: an input text on standard input, what it prints on standard output. Its work is `answering::answer`, from bytes to bytes. Of the input one
+// byte more is read than a text may have, so that a longer one is refused. A read that fails ends the input.
+use answering::answer;
+use libc::STDIN_FILENO;
+use libc::STDOUT_FILENO;
+use texts::Written;
+
+// Writes what was answered.
+fn main() {
+    let mut input = [0u8; 65537];
+    let mut out = [0u8; 7141];
+    let size = io::read_full(STDIN_FILENO, &mut input);
+    match answer(&input[..size], &mut out) {
+        Written::Bytes { count } => {
+            let end = count as usize;
+            io::write_all(STDOUT_FILENO, &out[..end]);
+        }
+        Written::Refused {
+            number: _,
+            place: _,
+        } => {}
+    }
+}
