@@ -21,8 +21,7 @@ use Rattle.pairs.specs.Links.{tableRows}
 use Rattle.lent.specs.Records.{firstOf}
 use Rattle.pairs.proofs.LinksRows.{table-counted, accepted-left, accepted-right}
 use Rattle.cutting.specs.declared.Answer.{Answer}
-use Rattle.cutting.specs.declared.Answer.the-variants.{Gave, Refused as Refused·answer}
-use Rattle.heaps.specs.Record.{entrySize, cutsIn, cutsOf}
+use Rattle.heaps.specs.Record.{entrySize, cutsOf}
 use Rattle.heaps.specs.Rows.{recordRows}
 use Rattle.cutting.specs.Rows.{labelRow, spaceRow, groupingRows}
 use Rattle.cutting.specs.Calls.{answered, Recorded, Continued, Grouping}

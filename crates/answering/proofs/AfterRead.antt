@@ -1,6 +1,6 @@
 -- From the reader's promise to the program's: what was read fits the rooms, and its groups, or the reader's refusal, are what is printed.
 -- Assumes nothing.
-use Prim.Native.Nat.{ℕ, _*_, _/_, _≤_, _<_}
+use Prim.Native.Nat.{ℕ, _*_, _/_}
 use mathlib.Core.Path.{_≡_, refl, sym, _∙_, ap, ap₂, subst}
 use mathlib.Core.List.{List, [], _∷_, _++_}
 use native.Mathlib.Omega.{arith}
@@ -14,7 +14,6 @@ use Rattle.meaning.specs.Judge.{refuse, first}
 use Rattle.pairs.proofs.LinksRows.{first-accepted, first-refused, accepted-left, accepted-right}
 use Rattle.heaps.specs.Record.{entrySize}
 use Rattle.reading.specs.declared.Reading.{Reading}
-use Rattle.reading.specs.declared.Reading.the-variants.{Got, Refused as Refused·reading}
 use Rattle.texts.specs.declared.Written.{Written}
 use Rattle.reading.specs.declared.stage.Stage.the-variants.{Opening}
 use Rattle.reading.specs.Lines.{Line, linesOf, lineRows}

@@ -1,9 +1,9 @@
 -- The theorems about the program's answer: what of it the promise settles. All but the cuts that grouping adds, which document 01 leaves free.
 -- Assumes nothing.
-use Prim.Native.Nat.{ℕ, zero, suc, _+_, _*_, _-_, _/_, _%_, _≤_, _<_}
+use Prim.Native.Nat.{ℕ, zero, suc, _+_, _*_, _-_, _/_, _≤_, _<_}
 use mathlib.Core.Path.{_≡_, refl, sym, _∙_, ap, ap₂, subst}
 use mathlib.Core.Bool.{true}
-use mathlib.Core.List.{List, [], _∷_, _++_}
+use mathlib.Core.List.{List, _++_}
 use native.Mathlib.Nat.{le-refl}
 use native.Mathlib.Omega.{arith}
 use lib.Dec.{eqb, ltb}
@@ -27,10 +27,10 @@ use Rattle.reading.specs.Lines.{linesOf}
 use Rattle.reading.specs.Reader.{linksIn, entriesIn, bonesIn, thresholdIn, readerRows, put}
 use Rattle.texts.specs.declared.Written.{Written}
 use Rattle.texts.specs.declared.Written.the-variants.{Bytes, Refused as Refused·written}
-use Rattle.texts.specs.Writers.{headLine, cutLines, labelLine, labelLines, closeLine, resultText, refusalLine, wrote, Writes}
+use Rattle.texts.specs.Writers.{headLine, cutLines, labelLine, labelLines, closeLine, resultText, refusalLine, wrote}
 use Rattle.texts.proofs.Texts.{result-length}
 use Rattle.texts.proofs.WritesLines.{length-refusal}
-use Rattle.answering.specs.Prints.{groupedRows, programRows, Finishes, Result, Printed, Answers, Answering}
+use Rattle.answering.specs.Prints.{groupedRows, programRows, Finishes, Result, Printed, Answering}
 
 -- ---- a result text
 

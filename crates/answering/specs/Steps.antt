@@ -1,7 +1,6 @@
 -- What the program's steps promise each other: what comes after reading, and what comes after grouping.
 use Prim.Native.Nat.{ℕ, _*_, _-_, _≤_, _<_}
 use mathlib.Core.List.{List}
-use mathlib.Core.Bool.{Bool}
 use lib.Dec.{ltb}
 use lib.ListN.{length, take}
 use Rattle.meaning.specs.declared.Link.{Link}

@@ -2,7 +2,7 @@
 -- fills it, and lent again, to be read, to `result_judged`, with the record and the text space. All that the proof knows of the two is that each meets
 -- its contract.
 -- Assumes nothing.
-use mathlib.Core.Path.{_≡_, refl, sym, _∙_, ap, subst}
+use mathlib.Core.Path.{_≡_, refl}
 use Prim.Native.Nat.{ℕ, _<_, _^_}
 use mathlib.Core.Bool.{true}
 use mathlib.Core.List.{List, [], _∷_}
@@ -47,7 +47,6 @@ use Rattle.meaning.specs.Judge.{refuse, first as first-of}
 use Rattle.pairs.specs.Links.{tableRows}
 use Rattle.lent.specs.Records.{firstOf}
 use Rattle.pairs.specs.Table.{held, filled}
-use Rattle.pairs.proofs.LinksBytes.{Short}
 use Rattle.lent.proofs.RecordsLink.{R, J, told, IsJudged, typed-judged, made-judged}
 use Rattle.lent.proofs.RecordsCalls.{calls-to}
 use Rattle.lent.proofs.RecordsRead.{Own}
