@@ -111,7 +111,7 @@ module _ {M : Type 1} (𝓤 : URA M) (H : Heap 𝓤) (A : Atoms 𝓤) (W : Given
   -- the call of `write_result` on the first bytes of the record space: what it is passed, and what it asks
   module _ (end : ℕ) (γ : GName) where
     abbrev front : RefT (List ℕ)
-    front = part-of 𝓤 H A W u8 (uint-vals w8) (uint-tells w8) (uint-copy 𝓤 H A W w8) κ₁ q₁ y end γ
+    front = part-of y end γ
 
     abbrev OwnFront : ℕ → Fml
     OwnFront size = ShrSlice (named 0) κ₁ u8 .own front (sliceVal (y .ptr) size ∷ [])

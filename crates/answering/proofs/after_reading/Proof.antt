@@ -109,10 +109,10 @@ module _ {M : Type 1} (𝓤 : URA M) (H : Heap 𝓤) (A : Atoms 𝓤) (W : Given
   -- the call of `group_read` on the first links and the first bytes: what it is passed, and what it asks
   module _ (n k count size : ℕ) (γ δ : GName) where
     abbrev links : RefT (List Link)
-    links = part-of 𝓤 H A W R vals tells (copied 𝓤 H A W) κ₀ q₀ x count γ
+    links = part-of x count γ
 
     abbrev entries : RefT (List ℕ)
-    entries = part-of 𝓤 H A W u8 (uint-vals w8) (uint-tells w8) (uint-copy 𝓤 H A W w8) κ₁ q₁ y size δ
+    entries = part-of y size δ
 
     abbrev OwnLinks : ℕ → Fml
     OwnLinks m = ShrSlice (named 0) κ₀ R .own links (sliceVal (x .ptr) m ∷ [])
