@@ -113,13 +113,13 @@ module _ {M : Type 1} {𝓤 : URA M} {H : Heap 𝓤} {A : Atoms 𝓤} {K : Type 
   pub big-lit : K → {w : Width} {m : ℕ} → Fits w m → Opd K W Γ E (intBig w m) (vint w m)
   big-lit t {w} {m} z = record { go = λ Kt h. via 𝓤 (Kt (vint w m)) h (guardI 𝓤 (Fits w m) (Kt (vint w m)) z) }
 
--- the front of a slice
+-- the front of a slice: the first k elements
+abbrev pub part-of : {X : Type 0} → RefT (List X) → ℕ → GName → RefT (List X)
+part-of x k γ = record { ptr = x .ptr; name = γ; now = take k (x .now) }
+
 module _ {M : Type 1} (𝓤 : URA M) (H : Heap 𝓤) (A : Atoms 𝓤) (W : Given 𝓤 H A) (R : RattleType) (vals : R .Denot → List Val) (tl : Tells R (Is R) vals) (cp : Copy 𝓤 H A R) (κ : Lft) (q : Share) where
   abbrev Own : RefT (List (R .Denot)) → Fml
   Own x = ShrSlice (named 0) κ R .own x (slice-vals x)
-
-  abbrev pub part-of : RefT (List (R .Denot)) → ℕ → GName → RefT (List (R .Denot))
-  part-of x k γ = record { ptr = x .ptr; name = γ; now = take k (x .now) }
 
   pub lends-front : (x : RefT (List (R .Denot))) (k : ℕ) → ent 𝓤 (sep 𝓤 (sem 𝓤 H A (Own x)) (A .lft κ q)) (H .⇛ (ex 𝓤 (λ (γ : GName). sep 𝓤 (sem 𝓤 H A (Own (part-of x k γ))) (A .lft κ q))))
   lends-front x k =
