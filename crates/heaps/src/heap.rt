@@ -2,7 +2,7 @@
 // means 128.
 use crate::lesser;
 use crate::record::Entry;
-use weighing::in_side;
+use pairs::in_side;
 ghost use mathlib.Core.Path.{_≡_};
 ghost use mathlib.Core.Bool.{cond};
 ghost use Prim.Native.Nat.{_≤_, _<_, min};
