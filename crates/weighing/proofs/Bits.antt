@@ -5,7 +5,7 @@ use mathlib.Core.Path.{_≡_, refl, sym, _∙_, ap}
 use mathlib.Core.Logic.{⊎-elim}
 use mathlib.Core.Bool.{Bool, true, false, cond, not, _&&_}
 use mathlib.Core.List.{List}
-use native.Mathlib.Nat.{le-refl, zero-div}
+use native.Mathlib.Nat.{le-refl, zero-div, add-zero}
 use native.Mathlib.Omega.{arith}
 use lib.Dec.{T, eqb, ltb, ltb→lt, nltb→le, not-T}
 use lib.ListN.{length, getD, List·getD-eq-default}
@@ -15,7 +15,7 @@ use Rattle.meaning.proofs.Tests.{decide, is-false, left-of, right-of, both}
 use Rattle.pairs.proofs.Filling.{cond-yes, cond-no}
 use Rattle.pairs.specs.Side.{sideOf}
 use Rattle.growing.specs.Blocks.{untaken}
-use Rattle.weighing.specs.Scan.{byteOf, bitOf}
+use Rattle.weighing.specs.Scan.{byteOf, halfOf, bitOf}
 
 pub bit-small : (S : Bones) (name : Heap) (free : Bones) (b : ℕ) → bitOf S name free b ≤ 1
 unfolding bitOf
@@ -26,7 +26,7 @@ bit-small S name free b = small (untaken S name free b)
     small false = zero-le
 
 pub byte-bit : (f : ℕ → ℕ) → ((i : ℕ) → f i ≤ 1) → (m : ℕ) → m < 8 → byteOf f / 2 ^ m % 2 ≡ f m
-unfolding byteOf
+unfolding byteOf halfOf
 byte-bit f h zero l = omega (arith, h 0, h 1, h 2, h 3, h 4, h 5, h 6, h 7)
 byte-bit f h (suc zero) l = omega (arith, h 0, h 1, h 2, h 3, h 4, h 5, h 6, h 7)
 byte-bit f h (suc (suc zero)) l = omega (arith, h 0, h 1, h 2, h 3, h 4, h 5, h 6, h 7)
@@ -36,6 +36,15 @@ byte-bit f h (suc (suc (suc (suc (suc zero))))) l = omega (arith, h 0, h 1, h 2,
 byte-bit f h (suc (suc (suc (suc (suc (suc zero)))))) l = omega (arith, h 0, h 1, h 2, h 3, h 4, h 5, h 6, h 7)
 byte-bit f h (suc (suc (suc (suc (suc (suc (suc zero))))))) l = omega (arith, h 0, h 1, h 2, h 3, h 4, h 5, h 6, h 7)
 byte-bit f h (suc (suc (suc (suc (suc (suc (suc (suc m)))))))) l = absurd (omega arith)
+
+-- two halves are a byte
+pub byte-from : (f : ℕ → ℕ) (b : ℕ) → halfOf f b + 16 * halfOf f (b + 4) ≡ byteOf (λ i. f (b + i))
+unfolding byteOf halfOf
+byte-from f b =
+    let five : b + 4 + 1 ≡ b + 5 = omega arith in
+    let six : b + 4 + 2 ≡ b + 6 = omega arith in
+    let seven : b + 4 + 3 ≡ b + 7 = omega arith in
+    omega (arith, ap f (add-zero b), ap f five, ap f six, ap f seven)
 
 place : (b : ℕ) → b / 8 * 8 + b % 8 ≡ b
 place b = omega arith

@@ -53,9 +53,12 @@ pub record Passed (n : ℕ) (w : Tally) (k : ℕ) (S : Bones) (p : ℕ) (old : H
   pub alone : light ≡ false → one ≡ true → (b : ℕ) → T (S b) → heapOf block b ≡ heapOf block p
   pub fewer : light ≡ false → one ≡ false → blocks n S (heapOf block) < blocks n S old
 
--- eight bits as a byte, the first worth least
+-- four bits from b on as half a byte, the first worth least, and eight as a byte
+unfoldable pub halfOf : (ℕ → ℕ) → ℕ → ℕ
+halfOf bit b = bit b + 2 * bit (b + 1) + 4 * bit (b + 2) + 8 * bit (b + 3)
+
 unfoldable pub byteOf : (ℕ → ℕ) → ℕ
-byteOf bit = bit 0 + 2 * bit 1 + 4 * bit 2 + 8 * bit 3 + 16 * bit 4 + 32 * bit 5 + 64 * bit 6 + 128 * bit 7
+byteOf bit = halfOf bit 0 + 16 * halfOf bit 4
 
 -- a bone's bit: whether its block is free
 unfoldable pub bitOf : Bones → Heap → Bones → ℕ → ℕ

@@ -7,7 +7,7 @@ ghost use Rattle.meaning.specs.Heap.{pile};
 ghost use Rattle.pairs.specs.Side.{heapOf, sideOf};
 ghost use Rattle.growing.specs.Blocks.{untaken};
 ghost use Rattle.pairs.specs.Marks.{marked};
-ghost use Rattle.weighing.specs.Scan.{BoneNames, bitOf, byteOf};
+ghost use Rattle.weighing.specs.Scan.{BoneNames, bitOf, halfOf, byteOf};
 
 // 1 where bone b is in the pile and its block is free, else 0.
 fn bit(names: &[u8; 128], block: &[u8; 128], free: &[u8; 128], n: usize, p: usize, b: usize) -> u8
@@ -26,6 +26,18 @@ fn bit(names: &[u8; 128], block: &[u8; 128], free: &[u8; 128], n: usize, p: usiz
     0
 }
 
+// Half a byte: the four bones from b on.
+fn half(names: &[u8; 128], block: &[u8; 128], free: &[u8; 128], n: usize, p: usize, b: usize) -> u8
+    requires { ⌜ (n ≤ 128) × (b < 128) ⌝ }
+    requires { ⌜ BoneNames n (now names) p (now block) ⌝ }
+    ensures { λ r. ⌜ (r ≡ halfOf (bitOf (pile n (heapOf (now (names .entry))) p) (heapOf (now (block .entry))) (marked (now (free .entry)))) b) × (r < 16) ⌝ }
+{
+    bit(names, block, free, n, p, b)
+        + 2 * bit(names, block, free, n, p, b + 1)
+        + 4 * bit(names, block, free, n, p, b + 2)
+        + 8 * bit(names, block, free, n, p, b + 3)
+}
+
 // The byte of the bones from 8 j on.
 fn side_byte(
     names: &[u8; 128],
@@ -40,15 +52,7 @@ fn side_byte(
     ensures { λ r. ⌜ r ≡ byteOf (λ i. bitOf (pile n (heapOf (now (names .entry))) p) (heapOf (now (block .entry))) (marked (now (free .entry))) (j * 8 + i)) ⌝ }
 {
     let b = j * 8;
-    let low = bit(names, block, free, n, p, b)
-        + 2 * bit(names, block, free, n, p, b + 1)
-        + 4 * bit(names, block, free, n, p, b + 2)
-        + 8 * bit(names, block, free, n, p, b + 3);
-    low
-        + 16 * bit(names, block, free, n, p, b + 4)
-        + 32 * bit(names, block, free, n, p, b + 5)
-        + 64 * bit(names, block, free, n, p, b + 6)
-        + 128 * bit(names, block, free, n, p, b + 7)
+    half(names, block, free, n, p, b) + 16 * half(names, block, free, n, p, b + 4)
 }
 
 // The side of the free blocks.
