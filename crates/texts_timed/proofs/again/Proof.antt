@@ -67,7 +67,7 @@ use Rattle.texts.proofs.input.write_input.Symbol as wri-def
 use Rattle.texts.proofs.input.write_input.Symbol.{name as #write-input}
 use Rattle.texts.proofs.input.write_input.Met as wri-thm
 use Rattle.texts_timed.specs.Again.{linkSpace as links₀, recordSpace as space₀, Again}
-use Rattle.texts_timed.proofs.Locals.{localTy, here, OwnMut, OwnShared, Back, lends-mut, mut-back, lends-shared, shared-room, repeat-typed, lies-repeat, big-lit}
+use Rattle.lent.proofs.Locals.{localTy, here, OwnMut, OwnShared, Back, lends-mut, mut-back, lends-shared, shared-room, repeat-typed, lies-repeat, big-lit}
 use Rattle.texts_timed.proofs.again.Key.{name as #again}
 use Rattle.texts_timed.proofs.again as f
 use Rattle.texts_timed.proofs.again.Statement as stated
