@@ -9,6 +9,7 @@ mod measure;
 mod plain;
 mod plain_texts;
 mod program;
+mod records;
 mod report;
 mod rng;
 mod stack;
@@ -143,6 +144,7 @@ fn run() -> Result<(), String> {
     report::print_growth(&rows);
     report::print_summary(&rows);
     print_stack(&rows);
+    records::print(&rows)?;
     texts::print(options.seed)?;
     if let Some(program) = &options.program {
         program::print(program).map_err(|error| format!("{}: {error}", program.display()))?;

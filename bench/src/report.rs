@@ -19,11 +19,11 @@ pub fn geometric_mean(values: impl Iterator<Item = f64>) -> f64 {
     (sum / f64::from(count.max(1))).exp()
 }
 
-fn rows_of<'a>(rows: &'a [Row], family: &'a str, size: usize) -> impl Iterator<Item = &'a Row> + 'a {
+pub fn rows_of<'a>(rows: &'a [Row], family: &'a str, size: usize) -> impl Iterator<Item = &'a Row> + 'a {
     rows.iter().filter(move |row| row.family == family && row.size == size)
 }
 
-fn families(rows: &[Row]) -> Vec<&str> {
+pub fn families(rows: &[Row]) -> Vec<&str> {
     let mut names: Vec<&str> = Vec::new();
     for row in rows {
         if names.last() != Some(&row.family.as_str()) {

@@ -6,6 +6,7 @@ pub mod RecordsCalls
 pub mod RecordsRead
 pub mod RecordsShort
 pub mod RecordsTable
+pub mod Locals
 pub mod RecordsLocal
 pub mod RecordsFill
 pub mod RecordsAgain

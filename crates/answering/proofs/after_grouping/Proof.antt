@@ -58,7 +58,7 @@ use Rattle.texts.proofs.result.write_result.Met as res-thm
 use Rattle.answering.specs.Steps.{Ready, AfterGrouping}
 use Rattle.answering.proofs.AnswerRow.{An, told, told-so, typed-answer, made-answer, refusal-fits, count-fits}
 use Rattle.answering.proofs.Calls.{Refuse, calls-to-last, calls-refuse, matches, lands-then}
-use Rattle.answering.proofs.Locals.{part-of, lends-front}
+use Rattle.lent.proofs.Locals.{part-of, lends-front}
 use Rattle.answering.proofs.refuse.Symbol as ref-def
 use Rattle.answering.proofs.refuse.Symbol.{name as #refuse}
 use Rattle.answering.proofs.refuse.Met as ref-thm

@@ -53,7 +53,7 @@ use Rattle.texts.proofs.WritesAnswer.{Wn, typed-held}
 use Rattle.answering.specs.Prints.{groupedRows, Answers}
 use Rattle.answering.specs.Steps.{Held, AfterReading}
 use Rattle.answering.proofs.Calls.{Refuse, calls-to-last, calls-refuse, matches, lands-then}
-use Rattle.answering.proofs.Locals.{part-of, lends-front}
+use Rattle.lent.proofs.Locals.{part-of, lends-front}
 use Rattle.answering.proofs.ReadingRow.{typed-read, refusal-fits, got-fits}
 use Rattle.answering.proofs.refuse.Symbol as ref-def
 use Rattle.answering.proofs.refuse.Symbol.{name as #refuse}

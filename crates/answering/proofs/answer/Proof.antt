@@ -59,7 +59,7 @@ use Rattle.reading.proofs.reader.read.Met as rea-thm
 use Rattle.answering.specs.Prints.{Answering}
 use Rattle.answering.specs.Steps.{Held, AfterReading}
 use Rattle.answering.proofs.AfterRead.{reading-held, reading-answers}
-use Rattle.answering.proofs.Locals.{localTy, here, OwnMut, OwnShared, Back, lends-mut, mut-back, lends-shared, shared-room, repeat-typed, lies-repeat, big-lit}
+use Rattle.lent.proofs.Locals.{localTy, here, OwnMut, OwnShared, Back, lends-mut, mut-back, lends-shared, shared-room, repeat-typed, lies-repeat, big-lit}
 use Rattle.answering.proofs.ReadingRow.{typed-read}
 use Rattle.answering.proofs.after_reading as aft
 use Rattle.answering.proofs.after_reading.Symbol as aft-def

@@ -1,4 +1,4 @@
--- `texts_timed::again` meets its contract: a walk of its MIR, by hand. Link space and record space are made in locals and lent to `read`; both are then lent
+-- `timed::again::again` meets its contract: a walk of its MIR, by hand. Link space and record space are made in locals and lent to `read`; both are then lent
 -- again, to be read, to `write_input`, with the text space. All that the proof knows of the two is that each meets its contract.
 -- Assumes nothing.
 use mathlib.Core.Path.{_≡_, refl, _∙_}
@@ -66,12 +66,12 @@ use Rattle.texts.proofs.input.write_input as wri
 use Rattle.texts.proofs.input.write_input.Symbol as wri-def
 use Rattle.texts.proofs.input.write_input.Symbol.{name as #write-input}
 use Rattle.texts.proofs.input.write_input.Met as wri-thm
-use Rattle.texts_timed.specs.Again.{linkSpace as links₀, recordSpace as space₀, Again}
-use Rattle.texts_timed.proofs.Locals.{localTy, here, OwnMut, OwnShared, Back, lends-mut, mut-back, lends-shared, shared-room, repeat-typed, lies-repeat, big-lit}
-use Rattle.texts_timed.proofs.again.Key.{name as #again}
-use Rattle.texts_timed.proofs.again as f
-use Rattle.texts_timed.proofs.again.Statement as stated
-use Rattle.texts_timed.proofs.again.Code as code
+use Rattle.timed.specs.Again.{linkSpace as links₀, recordSpace as space₀, Again}
+use Rattle.lent.proofs.Locals.{localTy, here, OwnMut, OwnShared, Back, lends-mut, mut-back, lends-shared, shared-room, repeat-typed, lies-repeat, big-lit}
+use Rattle.timed.proofs.again.again.Key.{name as #again}
+use Rattle.timed.proofs.again.again as f
+use Rattle.timed.proofs.again.again.Statement as stated
+use Rattle.timed.proofs.again.again.Code as code
 
 abbrev stayed : Stays (f.ended .signature .params) (f.ended .kept)
 stayed = (stay-none-slice (0 ∷ []) tt (plain (λ _. u8)) yes, (gave-slice (1 ∷ []) tt (plain (λ _. u8)), tt))

@@ -4,7 +4,7 @@ use reading::reader::read;
 use texts::Written;
 use texts::input::write_input;
 ghost use mathlib.Core.Path.{_≡_};
-ghost use Rattle.texts_timed.specs.Again.{Again, counted, Counted};
+ghost use Rattle.timed.specs.Again.{Again, counted, Counted};
 
 // Reads a text into link space and record space of its own, and writes an input text of the whole of both.
 fn again(text: &[u8], out: &mut [u8]) -> Written

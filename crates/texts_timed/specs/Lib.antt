@@ -1,2 +1,0 @@
--- What is promised of the longest text, read and written again.
-pub mod Again

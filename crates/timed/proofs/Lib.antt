@@ -1,0 +1,2 @@
+-- The laws behind what the bench times.
+mod Repeats

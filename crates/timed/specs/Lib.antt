@@ -1,0 +1,3 @@
+-- What is promised of what the bench times.
+pub mod Again
+pub mod Groups
