@@ -25,6 +25,7 @@ use Rattle.reading.specs.Walk.{byteAt, digitsAt, sizeAt, Well, Found}
 use Rattle.reading.specs.Judging.{Passes, LineJudged, Small, Ready, Advanced, headFrom, answer, readFrom}
 use Rattle.reading.proofs.Lines.{front}
 use Rattle.reading.proofs.Walks.{size-of, well-digits, well-room}
+use Rattle.reading.proofs.Stages.{after-head, after-link, after-cut, after-note, after-close, close-only}
 use Rattle.reading.proofs.Judging.{row-applies, row-passes, rest, rest-at, rows-pass, head-read, head-kept}
 use Rattle.reading.proofs.ReadsText.{bones-front, threshold-front, links-front, links-skip, entries-front, entries-skip, entry-length}
 
@@ -133,34 +134,46 @@ module _ (text : List ℕ) (s s′ : Progress) (small : Small text s) (p : Passe
         same = other-answer f en ek (omega (arith, ap length (links-skip cs (p .well) g))) (omega (arith, ap length (entries-skip cs (p .well) h)));
       }
 
--- the same, from the frame that was found
-module _ (text : List ℕ) (s s′ : Progress) (f : Frame) (r : Ready text s f) (at′ : s′ .at ≡ s .at + 2 * f .size + 1) (line′ : s′ .line ≡ s .line + 1)
-    (stage′ : s′ .stage ≡ after (s .stage) (f .kind)) where
-  found-kind : f .kind ≡ byteAt (drop (s .at) text) 0
+-- the same, from the frame that was found: by its kind, at the stage where it leads
+module _ (text : List ℕ) (s s′ : Progress) (f : Frame) (r : Ready text s f) (at′ : s′ .at ≡ s .at + 2 * f .size + 1) (line′ : s′ .line ≡ s .line + 1) where
+  abbrev kind-here : ℕ
+  kind-here = byteAt (drop (s .at) text) 0
+
+  found-kind : f .kind ≡ kind-here
   found-kind = r .found .kind (r .some)
 
-  moved : Moved text s s′
-  moved =
-      record {
-        place = at′ ∙ ap (λ (n : ℕ). s .at + 2 * n + 1) (r .found .size (r .some));
-        line = line′;
-        stage = stage′ ∙ ap (after (s .stage)) found-kind;
-      }
+  moved : s′ .stage ≡ after (s .stage) kind-here → Moved text s s′
+  moved stage′ = record { place = at′ ∙ ap (λ (n : ℕ). s .at + 2 * n + 1) (r .found .size (r .some)); line = line′; stage = stage′ }
 
-  pub go-head : f .kind ≡ 1 → s′ .n ≡ byteAt (drop (s .at) text) 1 → s′ .k ≡ byteAt (drop (s .at) text) 2 * 256 + byteAt (drop (s .at) text) 3
-      → s′ .links ≡ s .links → s′ .cuts ≡ s .cuts → Advanced text s s′
-  go-head e = advance-head text s s′ (r .small) (r .passes) moved (sym found-kind ∙ e)
+  pub go-head : s′ .stage ≡ Linking → f .kind ≡ 1 → s′ .n ≡ byteAt (drop (s .at) text) 1
+      → s′ .k ≡ byteAt (drop (s .at) text) 2 * 256 + byteAt (drop (s .at) text) 3 → s′ .links ≡ s .links → s′ .cuts ≡ s .cuts → Advanced text s s′
+  go-head stage′ e =
+      let here = sym found-kind ∙ e in
+      advance-head text s s′ (r .small) (r .passes) (moved (stage′ ∙ after-head (s .stage) kind-here (r .passes .order) here)) here
 
-  pub go-link : f .kind ≡ 2 → s′ .n ≡ s .n → s′ .k ≡ s .k → s′ .links ≡ s .links + 1 → s′ .cuts ≡ s .cuts → Advanced text s s′
-  go-link e = advance-link text s s′ (r .small) (r .passes) moved (sym found-kind ∙ e)
+  pub go-link : s′ .stage ≡ Linking → f .kind ≡ 2 → s′ .n ≡ s .n → s′ .k ≡ s .k → s′ .links ≡ s .links + 1 → s′ .cuts ≡ s .cuts → Advanced text s s′
+  go-link stage′ e =
+      let here = sym found-kind ∙ e in
+      advance-link text s s′ (r .small) (r .passes) (moved (stage′ ∙ after-link (s .stage) kind-here (r .passes .order) here)) here
 
-  pub go-cut : f .kind ≡ 3 → s′ .n ≡ s .n → s′ .k ≡ s .k → s′ .links ≡ s .links → s′ .cuts ≡ s .cuts + 1 → Advanced text s s′
-  go-cut e = advance-cut text s s′ (r .small) (r .passes) moved (sym found-kind ∙ e)
+  pub go-cut : s′ .stage ≡ Cutting → f .kind ≡ 3 → s′ .n ≡ s .n → s′ .k ≡ s .k → s′ .links ≡ s .links → s′ .cuts ≡ s .cuts + 1 → Advanced text s s′
+  go-cut stage′ e =
+      let here = sym found-kind ∙ e in
+      advance-cut text s s′ (r .small) (r .passes) (moved (stage′ ∙ after-cut (s .stage) kind-here (r .passes .order) here)) here
 
-  pub go-other : (f .kind ≡ 1 → ⊥) → (f .kind ≡ 2 → ⊥) → (f .kind ≡ 3 → ⊥) → s′ .n ≡ s .n → s′ .k ≡ s .k → s′ .links ≡ s .links → s′ .cuts ≡ s .cuts
-      → Advanced text s s′
-  go-other x y z =
-      advance-other text s s′ (r .small) (r .passes) moved (λ e. x (found-kind ∙ e)) (λ e. y (found-kind ∙ e)) (λ e. z (found-kind ∙ e))
+  pub go-note : s′ .stage ≡ s .stage → f .kind ≡ 5 → s′ .n ≡ s .n → s′ .k ≡ s .k → s′ .links ≡ s .links → s′ .cuts ≡ s .cuts → Advanced text s s′
+  go-note stage′ e =
+      let here = sym found-kind ∙ e in
+      advance-other text s s′ (r .small) (r .passes) (moved (stage′ ∙ after-note (s .stage) kind-here (r .passes .order) here))
+      (λ q. omega (arith, here)) (λ q. omega (arith, here)) (λ q. omega (arith, here))
+
+  pub go-close : s′ .stage ≡ Closed → (f .kind ≡ 1 → ⊥) → (f .kind ≡ 2 → ⊥) → (f .kind ≡ 3 → ⊥) → (f .kind ≡ 5 → ⊥)
+      → s′ .n ≡ s .n → s′ .k ≡ s .k → s′ .links ≡ s .links → s′ .cuts ≡ s .cuts → Advanced text s s′
+  go-close stage′ a b c d =
+      let order = r .passes .order in
+      let here = close-only (s .stage) kind-here order (λ e. a (found-kind ∙ e)) (λ e. b (found-kind ∙ e)) (λ e. c (found-kind ∙ e)) (λ e. d (found-kind ∙ e)) in
+      advance-other text s s′ (r .small) (r .passes) (moved (stage′ ∙ after-close (s .stage) kind-here order here))
+      (λ q. omega (arith, here)) (λ q. omega (arith, here)) (λ q. omega (arith, here))
 
 -- the frame stands within the text, and a head's bytes are digits
 pub ready-room : (text : List ℕ) (s : Progress) (f : Frame) → Ready text s f → s .at + 2 * f .size < length text

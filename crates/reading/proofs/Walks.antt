@@ -7,12 +7,13 @@ use mathlib.Core.Bool.{Bool, true, false, cond, _&&_}
 use mathlib.Core.List.{List, [], _∷_, _++_}
 use native.Mathlib.Nat.{add-zero, eq-or-lt-of-le}
 use native.Mathlib.Omega.{arith}
-use lib.Dec.{T, leb, ltb, leb→le, ltb→lt, le→leb, lt→ltb, T-not}
+use borrow.Author.Tests.{le-ltb, lt-ltb}
+use lib.Dec.{T, eqb, leb, ltb, leb→le, ltb→lt, eqb→eq, le→leb, lt→ltb, T-not}
 use lib.ListN.{length, getD, take, drop, length-drop}
 use lib.Seq.{getD-drop}
-use Rattle.meaning.proofs.Tests.{both, left-of, right-of, is-true}
+use Rattle.meaning.proofs.Tests.{both, left-of, right-of, is-true, fails, eq→eqb}
 use Rattle.reading.specs.Frame.{payloads, isKind, byteSum, isHex, bytesOf}
-use Rattle.reading.specs.Walk.{pairOf, kindOf, byteAt, digitsAt, sizeAt, Well, SizeFound, Summed, Found}
+use Rattle.reading.specs.Walk.{pairOf, kindOf, byteAt, digitsAt, sizeAt, feedAt, Well, SizeFound, Summed, Found}
 use Rattle.reading.proofs.Frames.{chosen, pair-bound, pair-small, pair-zero, sum-snoc, sum-bound}
 use Rattle.reading.proofs.Lines.{bytesOf-snoc, hex-snoc, hex-at, pair-digits-at, pair-byte-at, byteAt-bound}
 
@@ -136,8 +137,31 @@ no-size cs f =
       feed = λ h. absurd (omega arith);
     }
 
-pub feed-well : (text : List ℕ) (at size : ℕ) → Well (drop at text) → size ≡ sizeAt (drop at text) → getD text (at + 2 * size) 0 ≡ 10
-feed-well text at size w e = rw e (sym (getD-drop at text (2 * sizeAt (drop at text)) 0) ∙ w .feed)
+-- a line feed behind so many bytes: by its tests, and at the end of a well formed line
+pub feed-none : (cs : List ℕ) (size : ℕ) → length cs ≤ 2 * size → false ≡ feedAt cs size
+unfolding feedAt
+feed-none cs size h = rw (le-ltb (2 * size) (length cs) h) refl
+
+pub feed-some : (text : List ℕ) (at size : ℕ) → 2 * size < length (drop at text) → eqb (getD text (at + 2 * size) 0) 10 ≡ feedAt (drop at text) size
+unfolding feedAt
+feed-some text at size h = rw (lt-ltb (2 * size) (length (drop at text)) h, getD-drop at text (2 * size) 0) refl
+
+feed-told : (cs : List ℕ) (size : ℕ) → T (feedAt cs size) → (2 * size < length cs) × (getD cs (2 * size) 0 ≡ 10)
+unfolding feedAt
+feed-told cs size t =
+    let room = ltb (2 * size) (length cs) in
+    let feed = eqb (getD cs (2 * size) 0) 10 in
+    (ltb→lt (2 * size) (length cs) (left-of room feed t), eqb→eq (getD cs (2 * size) 0) 10 (right-of room feed t))
+
+well-feed : (cs : List ℕ) (size : ℕ) → Well cs → size ≡ sizeAt cs → T (feedAt cs size)
+unfolding feedAt
+well-feed cs size w e =
+    subst (λ (n : ℕ). T (feedAt cs n)) (sym e)
+    (both (ltb (2 * sizeAt cs) (length cs)) (eqb (getD cs (2 * sizeAt cs) 0) 10) (lt→ltb (2 * sizeAt cs) (length cs) (w .room))
+    (eq→eqb (getD cs (2 * sizeAt cs) 0) 10 (w .feed)))
+
+pub no-feed : (cs : List ℕ) (size : ℕ) (r : Bool) → (Well cs → size ≡ sizeAt cs) → r ≡ feedAt cs size → r ≡ false → SizeFound cs 0
+no-feed cs size r s e f = no-size cs (λ w. T-not (feedAt cs size) (fails (sym e ∙ f)) (well-feed cs size w (s w)))
 
 -- the kind that two characters mean
 pub kind-low : (d : ℕ) → 48 ≤ d → d < 56 → kindOf 48 d ≡ d - 48
@@ -195,18 +219,18 @@ module _ (text : List ℕ) (at kind : ℕ) (e : kind ≡ kindOf (getD text at 0)
       let b = kind-bounds (byteAt (drop at text) 0) (w .kind) in
       (omega (arith, b .0), omega (arith, b .1), ap (λ (x : ℕ). getD payloads x 0 + 2) q)
 
-  pub size-found : 1 ≤ kind → (size : ℕ) → size ≡ getD payloads kind 0 + 2 → at + 2 * size < length text
-      → getD text (at + 2 * size) 0 ≡ 10 → SizeFound (drop at text) size
+  pub size-found : 1 ≤ kind → (size : ℕ) → size ≡ getD payloads kind 0 + 2 → T (feedAt (drop at text) size) → SizeFound (drop at text) size
   unfolding sizeAt
-  size-found a size s room feed =
+  size-found a size s t =
       let q = kind-below a in
+      let feed = feed-told (drop at text) size t in
       record {
         none = λ z. absurd (omega arith);
         kind = λ h. subst (λ (x : ℕ). T (isKind x)) q (bounds-kind kind a (kind-some a .0));
         size = λ h. s ∙ ap (λ (x : ℕ). getD payloads x 0 + 2) q;
-        room = omega (arith, length-drop at text);
-        closed = λ h. omega (arith, length-drop at text);
-        feed = λ h. getD-drop at text (2 * size) 0 ∙ feed;
+        room = omega (arith, feed .0);
+        closed = λ h. feed .0;
+        feed = λ h. feed .1;
       }
 
 -- the frame at a place, from its size, its sum and its kind

@@ -63,6 +63,16 @@ pub record Ready (text : List ℕ) (s : Progress) (f : Frame) : Type 0 where
   pub found : Found (drop (s .at) text) f
   pub passes : Passes (drop (s .at) text) (s .stage) (s .line)
 
+-- at a place, a line and a stage, with what was read before
+pub record Stands (s s′ : Progress) (at line′ : ℕ) (stage′ : Stage) : Type 0 where
+  pub place : s′ .at ≡ at
+  pub line : s′ .line ≡ line′
+  pub stage : s′ .stage ≡ stage′
+  pub n : s′ .n ≡ s .n
+  pub k : s′ .k ≡ s .k
+  pub links : s′ .links ≡ s .links
+  pub cuts : s′ .cuts ≡ s .cuts
+
 pub record Advanced (text : List ℕ) (s s′ : Progress) : Type 0 where
   pub small : Small text s′
   pub further : s .at < s′ .at

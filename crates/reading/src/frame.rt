@@ -1,11 +1,11 @@
 // Frames: how many payload bytes a kind has, digits and the byte that a pair of them means, and the sum of a frame's bytes.
 ghost use mathlib.Core.Path.{_≡_};
 ghost use mathlib.Core.Bool.{cond, _&&_};
-ghost use Prim.Native.Nat.{_+_, _*_, _≤_};
+ghost use Prim.Native.Nat.{_+_, _*_, _%_, _≤_, _<_};
 ghost use lib.Dec.{T, ltb};
 ghost use lib.ListN.{getD, length, drop};
 ghost use Rattle.reading.specs.Frame.{payloads, valueOf};
-ghost use Rattle.reading.specs.Walk.{pairOf, kindOf, byteAt, digitsAt, Well, Found, SizeFound, Summed};
+ghost use Rattle.reading.specs.Walk.{pairOf, kindOf, byteAt, digitsAt, feedAt, Well, Found, SizeFound, Summed};
 
 // The frame at a place of a text: how many bytes it has, its kind and the sum of its bytes. No well formed line there: the size is nought.
 pub(crate) struct Frame {
@@ -74,15 +74,23 @@ fn wide(x: u8) -> usize
     x as usize
 }
 
-// How many bytes the frame at a place has, where there is such a kind, room for its line, and a line feed at its end; else nought.
+// Whether a line feed stands behind so many bytes at a place.
+fn feed_at(text: &[u8], at: usize, size: usize) -> bool
+    requires { ⌜ (at ≤ length (now text)) × (size ≤ 23) ⌝ }
+    ensures { λ r. ⌜ r ≡ feedAt (drop at (now (text .entry))) size ⌝ }
+{
+    if text.len() - at <= 2 * size {
+        return false;
+    }
+    text[at + 2 * size] == 10
+}
+
+// How many bytes the frame at a place has, where there is such a kind, and a line feed at the end of its line; else nought.
 fn size_at(text: &[u8], at: usize) -> usize
+    requires { ⌜ at < length (now text) ⌝ }
     ensures { λ r. ⌜ SizeFound (drop at (now (text .entry))) r ⌝ }
 {
-    let end = text.len();
-    if end <= at {
-        return 0;
-    }
-    if end - at <= 2 {
+    if text.len() - at <= 2 {
         return 0;
     }
     let kind = kind_of(text[at], text[at + 1]);
@@ -90,13 +98,7 @@ fn size_at(text: &[u8], at: usize) -> usize
         return 0;
     }
     let size = payload(kind) + 2;
-    if end - at <= 2 * size {
-        return 0;
-    }
-    if text[at + 2 * size] != 10 {
-        return 0;
-    }
-    size
+    if feed_at(text, at, size) { size } else { 0 }
 }
 
 // The kind of the frame at a place.
@@ -105,6 +107,13 @@ pub(crate) fn kind_at(text: &[u8], at: usize) -> usize
     ensures { λ r. ⌜ r ≡ byteAt (drop at (now (text .entry))) 0 ⌝ }
 {
     kind_of(text[at], text[at + 1])
+}
+
+// A byte added to a sum of bytes, with the carry thrown away.
+fn add_byte(sum: u8, byte: u8) -> u8
+    ensures { λ r. ⌜ r ≡ (sum + byte) % 256 ⌝ }
+{
+    std::num::wrapping_add_u8(sum, byte)
 }
 
 // The sum of the bytes at a place, added as bytes with the carry thrown away; 256 where they are not all written in digits. Every byte is looked at,
@@ -119,7 +128,7 @@ fn add_bytes(text: &[u8], at: usize, size: usize) -> usize
     while i < size {
         let byte = pair(text[at + 2 * i], text[at + 2 * i + 1]);
         bad += byte / 256;
-        sum = std::num::wrapping_add_u8(sum, (byte % 256) as u8);
+        sum = add_byte(sum, (byte % 256) as u8);
         i += 1;
     }
     if bad == 0 { wide(sum) } else { 256 }
@@ -138,6 +147,7 @@ fn sum_at(text: &[u8], at: usize, size: usize) -> usize
 
 // The frame at a place of a text.
 pub(crate) fn frame_at(text: &[u8], at: usize) -> Frame
+    requires { ⌜ at < length (now text) ⌝ }
     ensures { λ r. ⌜ Found (drop at (now (text .entry))) r ⌝ }
 {
     let size = size_at(text, at);

@@ -7,11 +7,11 @@ ghost use Rattle.reading.specs.declared.stage.Stage.the-variants.{Openin
 ghost use Rattle.reading.specs.Lines.{linesOf, lineRows};
 ghost use Rattle.reading.specs.Reader.{read, readerRows};
 ghost use Rattle.reading.specs.Walk.{Found};
-ghost use Rattle.reading.specs.Judging.{LineJudged, Ready, Advanced};
+ghost use Rattle.reading.specs.Judging.{LineJudged, Stands, Ready, Advanced};
 use crate::Reading;
 use crate::frame::Frame;
 use crate::stage::Stage;
-use cutting::record::Record;
+use heaps::record::Record;
 
 // How far judging has come: the place in the text, the line, the stage, the head's numbers, and the links and cuts so far.
 pub(crate) struct Progress {
@@ -47,58 +47,51 @@ fn line_row(text: &[u8], at: usize, f: Frame, stage: Stage, line: u32) -> u32
     0
 }
 
-// What is known after a line that passed: a head's numbers, one link or one cut more, and the line behind it.
-fn advance(text: &[u8], s: Progress, f: Frame) -> Progress
-    requires { ⌜ Ready (now text) s f ⌝ }
-    ensures { λ r. ⌜ Advanced (now (text .entry)) s r ⌝ }
+// Behind a frame: the place, the line and the stage there. What was read stays.
+fn move_to(s: Progress, at: usize, line: u32, stage: Stage) -> Progress
+    ensures { λ r. ⌜ Stands s r at line stage ⌝ }
 {
-    let at = s.at;
-    let kind = f.kind;
-    let next = at + 2 * f.size + 1;
-    let before = s.stage;
-    let stage = crate::stage::stage_after(before, kind);
-    if kind == 1 {
-        return Progress {
-            at: next,
-            line: s.line + 1,
-            stage: stage,
-            n: crate::frame::byte_at(text, at, 1),
-            k: crate::frame::number_at(text, at, 2),
-            links: s.links,
-            cuts: s.cuts,
-        };
-    }
-    if kind == 2 {
-        return Progress {
-            at: next,
-            line: s.line + 1,
-            stage: stage,
-            n: s.n,
-            k: s.k,
-            links: s.links + 1,
-            cuts: s.cuts,
-        };
-    }
-    if kind == 3 {
-        return Progress {
-            at: next,
-            line: s.line + 1,
-            stage: stage,
-            n: s.n,
-            k: s.k,
-            links: s.links,
-            cuts: s.cuts + 1,
-        };
-    }
     Progress {
-        at: next,
-        line: s.line + 1,
+        at: at,
+        line: line,
         stage: stage,
         n: s.n,
         k: s.k,
         links: s.links,
         cuts: s.cuts,
     }
+}
+
+// What is known behind a line that passed, by its kind: a head's numbers, one link or one cut more. Every frame counts as a line, notes too; and what
+// stands behind the close is still to be tried.
+fn advance(text: &[u8], s: Progress, f: Frame) -> Progress
+    requires { ⌜ Ready (now text) s f ⌝ }
+    ensures { λ r. ⌜ Advanced (now (text .entry)) s r ⌝ }
+{
+    let kind = f.kind;
+    let next = s.at + 2 * f.size + 1;
+    let line = s.line + 1;
+    if kind == 1 {
+        let mut head = move_to(s, next, line, Stage::Linking);
+        head.n = crate::frame::byte_at(text, s.at, 1);
+        head.k = crate::frame::number_at(text, s.at, 2);
+        return head;
+    }
+    if kind == 2 {
+        let mut link = move_to(s, next, line, Stage::Linking);
+        link.links = s.links + 1;
+        return link;
+    }
+    if kind == 3 {
+        let mut cut = move_to(s, next, line, Stage::Cutting);
+        cut.cuts = s.cuts + 1;
+        return cut;
+    }
+    if kind == 5 {
+        let stage = s.stage;
+        return move_to(s, next, line, stage);
+    }
+    move_to(s, next, line, Stage::Closed)
 }
 
 // Rows 16 to 19 on each line in turn, and what the text holds.

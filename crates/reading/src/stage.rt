@@ -1,6 +1,6 @@
-// How far an input text has come: which frames may follow, and where they lead.
+// How far an input text has come, and which frames may follow.
 ghost use mathlib.Core.Path.{_≡_};
-ghost use Rattle.reading.specs.Lines.{follows, after, open-at};
+ghost use Rattle.reading.specs.Lines.{follows, open-at};
 
 // Nothing yet; after the head; after the first cut; after the close.
 pub enum Stage {
@@ -38,31 +38,6 @@ pub(crate) fn may_follow(stage: Stage, kind: usize) -> bool
             kind == 6
         }
         Stage::Closed => false,
-    }
-}
-
-// How far the text has come after it.
-pub(crate) fn stage_after(stage: Stage, kind: usize) -> Stage
-    ensures { λ r. ⌜ r ≡ after stage kind ⌝ }
-{
-    match stage {
-        Stage::Opening => Stage::Linking,
-        Stage::Linking => {
-            if kind == 6 {
-                return Stage::Closed;
-            }
-            if kind == 3 {
-                return Stage::Cutting;
-            }
-            Stage::Linking
-        }
-        Stage::Cutting => {
-            if kind == 6 {
-                return Stage::Closed;
-            }
-            Stage::Cutting
-        }
-        Stage::Closed => Stage::Closed,
     }
 }
 

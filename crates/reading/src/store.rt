@@ -16,7 +16,7 @@ use crate::frame::byte_at;
 use crate::frame::kind_at;
 use crate::frame::number_at;
 use crate::frame::payload;
-use cutting::record::Record;
+use heaps::record::Record;
 use meaning::Link;
 
 // The place behind the frame at a place.

@@ -8,7 +8,7 @@ use Rattle.reading.proofs.frame.add_bytes.Statement.{statement}
 use Rattle.reading.proofs.frame.add_bytes.Tie as tie
 use Rattle.reading.proofs.frame.add_bytes.Reads as reads
 use Rattle.reading.proofs.frame.add_bytes.Lts as lts
-use Rattle.std.proofs.num.wrapping_add_u8.Reads as wrapping-add-u8-reads
+use Rattle.reading.proofs.frame.add_byte.Reads as add-byte-reads
 use Rattle.reading.proofs.frame.pair.Reads as pair-reads
 use Rattle.reading.proofs.frame.wide.Reads as wide-reads
 
@@ -62,12 +62,12 @@ add-bad c =
     omega (arith, l .loop .inv .1 .few, pair-bound (getD (a .text .now) (a .at + 2 * l .loop .i) 0) (getD (a .text .now) (a .at + 2 * l .loop .i + 1) 0))
 
 -- src/frame.rt:122:46
-cast-wrapping-add-u8 : tie.Need-cast-wrapping-add-u8 Inv-loop μ-loop
-cast-wrapping-add-u8 c = search needs
+cast-add-byte : tie.Need-cast-add-byte Inv-loop μ-loop
+cast-add-byte c = search needs
 
 -- src/frame.rt:122:9
-wrapping-add-u8-requires : tie.Need-wrapping-add-u8-requires Inv-loop μ-loop
-wrapping-add-u8-requires c κs = search needs
+add-byte-requires : tie.Need-add-byte-requires Inv-loop μ-loop
+add-byte-requires c κs = search needs
 
 -- src/frame.rt:123:9
 add-i : tie.Need-add-i Inv-loop μ-loop
@@ -84,7 +84,7 @@ loop-again c =
     let a = l .before .before .args in (
       omega arith,
       adding-more (a .text .now) (a .at) (a .size) (l .loop .i) (l .loop .sum) (l .loop .bad) (c .before .pair .result) _
-          (omega arith) (omega arith) (l .loop .inv .1) (c .before .pair .ensures) (c .wrapping-add-u8 .ensures),
+          (omega arith) (omega arith) (l .loop .inv .1) (c .before .pair .ensures) (c .add-byte .ensures),
     )
 
 -- src/frame.rt:125:19
@@ -119,8 +119,8 @@ add-bytes-spec =
     shared-slice-read-pair-2
     pair-requires
     add-bad
-    cast-wrapping-add-u8
-    wrapping-add-u8-requires
+    cast-add-byte
+    add-byte-requires
     add-i
     loop-less
     loop-again

@@ -1,0 +1,39 @@
+-- `frame::feed_at` meets its contract. Assumes nothing.
+use borrow.Author.Needs.{needs}
+use native.Mathlib.Omega.{arith}
+use lib.ListN.{length-drop}
+use Rattle.reading.proofs.Walks.{feed-none, feed-some}
+use Rattle.reading.proofs.frame.feed_at.Statement.{statement}
+use Rattle.reading.proofs.frame.feed_at.Tie as tie
+use Rattle.reading.proofs.frame.feed_at.Reads as reads
+use Rattle.reading.proofs.frame.feed_at.Lts as lts
+
+sub-if1 : tie.Need-sub-if1
+sub-if1 c = search needs
+
+mul-if1 : tie.Need-mul-if1
+mul-if1 c = search needs
+
+returns : tie.Need-returns
+returns c =
+    let a = c .before .args in
+    feed-none _ (a .size) (omega (arith, length-drop (a .at) (a .text .now)))
+
+mul-result : tie.Need-mul-result
+mul-result c = search needs
+
+add-result : tie.Need-add-result
+add-result c = search needs
+
+shared-slice-read-result : tie.Need-shared-slice-read-result
+shared-slice-read-result c = search needs
+
+returns-2 : tie.Need-returns-2
+returns-2 c =
+    let a = c .before .before .args in
+    feed-some (a .text .now) (a .at) (a .size) (omega (arith, length-drop (a .at) (a .text .now)))
+
+pub feed-at-spec : {M : Type 1} → statement M
+feed-at-spec =
+    tie.close
+    (tie.spec sub-if1 mul-if1 returns mul-result add-result shared-slice-read-result returns-2)
