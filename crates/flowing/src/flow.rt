@@ -35,10 +35,10 @@ fn mark(path: &[u16; 128], free: &[u8; 128], seen: &mut [u8; 128])
 }
 
 // One path is looked for, and tally sent along it. Gives how much was sent; nought where nothing was, and then the bones reached are
-// marked.
+// marked. Until then `seen` is the look's queue.
 fn round(
     ways: &[u32; 448],
-    next: &[u16; 896],
+    next: &[u16; 448],
     first: &[u16; 128],
     m: usize,
     free: &[u8; 128],
@@ -47,19 +47,18 @@ fn round(
     res: &mut [u32; 448],
     seen: &mut [u8; 128],
 ) -> u32
-    requires { ⌜ (m ≤ 448) × (t < 128) × (length (now res) ≡ 448) × (length (now seen) ≡ 128) ⌝ }
+    requires { ⌜ (m ≤ 448) × (t < 128) × (length (now res) ≡ 448) ⌝ }
     ensures { λ r. ⌜ length (now (res .exit)) ≡ 448 ⌝ }
     ensures { λ r. ⌜ (0 < r → Sends (waysOf (now (ways .entry)) m) (now (res .entry)) (now (res .exit)) t (unmarked (now (free .entry))) r) ⌝ }
     ensures { λ r. ⌜ (r ≡ 0 → Clear (unmarked (now (free .entry))) (now (seen .exit))) ⌝ }
-    ensures { λ r. ⌜ length (now (seen .exit)) ≡ 128 ⌝ }
 {
     let mut path = [0u16; 128];
-    let mut queue = [0u8; 128];
-    let met = reach(ways, next, first, res, free, t, &mut path, &mut queue);
+    let met = reach(ways, next, first, res, free, t, &mut path, seen);
     let d = send(ways, m, free, &path, t, met, want, res);
     if 0 < d {
         return d;
     }
+    *seen = [0; 128];
     mark(&path, free, seen);
     0
 }
@@ -136,63 +135,57 @@ fn settle(
 // t still reaches weigh less than k (verdict 2, and `seen` marks them). Verdict 0: nothing is known.
 fn flow_within(
     ways: &[u32; 448],
-    next: &[u16; 896],
+    next: &[u16; 448],
     first: &[u16; 128],
     m: usize,
     k: u64,
     free: &[u8; 128],
     t: usize,
-    res: &mut [u32; 448],
     seen: &mut [u8; 128],
 ) -> Shown
-    requires { ⌜ (m ≤ 448) × (t < 128) × (length (now res) ≡ 448) × (length (now seen) ≡ 128) ⌝ }
+    requires { ⌜ (m ≤ 448) × (t < 128) × (k < 65536) ⌝ }
     ensures { λ r. ⌜ Flowed (waysOf (now (ways .entry)) m) k t (unmarked (now (free .entry))) (now (seen .exit)) (r .verdict) (r .weight) ⌝ }
-    ensures { λ r. ⌜ length (now (res .exit)) ≡ 448 ⌝ }
 {
-    if 65535 < k {
-        return Shown {
-            verdict: 0,
-            weight: 0,
-        };
-    }
-    start(ways, m, res);
+    let mut res = [0u32; 448];
+    start(ways, m, &mut res);
     let mut sent: u64 = 0;
     while sent < k {
         let want = k - sent;
-        let d = round(ways, next, first, m, free, t, want as u32, res, seen);
+        let d = round(ways, next, first, m, free, t, want as u32, &mut res, seen);
         if d == 0 {
             return settle(ways, m, k, free, t, seen);
         }
         sent += d as u64;
     }
+    *seen = [0; 128];
     Shown {
         verdict: 1,
         weight: 0,
     }
 }
 
-// The same for any numbers: nothing is known where there is no such bone, or where there are more pairs than are listed.
+// The same for any numbers: nothing is known where there is no such bone, where there are more pairs than are listed, or where k is over
+// 65,535.
 pub fn flow(
     ways: &[u32; 448],
-    next: &[u16; 896],
+    next: &[u16; 448],
     first: &[u16; 128],
     m: usize,
     k: u64,
     free: &[u8; 128],
     t: usize,
-    res: &mut [u32; 448],
     seen: &mut [u8; 128],
 ) -> Shown
     ensures { λ r. ⌜ Flowed (waysOf (now (ways .entry)) m) k t (unmarked (now (free .entry))) (now (seen .exit)) (r .verdict) (r .weight) ⌝ }
-    ensures { λ r. ⌜ length (now (res .exit)) ≡ 448 ⌝ }
 {
-    *res = [0; 448];
-    *seen = [0; 128];
     if m <= 448 {
         if t < 128 {
-            return flow_within(ways, next, first, m, k, free, t, res, seen);
+            if k < 65536 {
+                return flow_within(ways, next, first, m, k, free, t, seen);
+            }
         }
     }
+    *seen = [0; 128];
     Shown {
         verdict: 0,
         weight: 0,

@@ -71,10 +71,27 @@ fn try_arc(
     front
 }
 
-// The arcs of bone b are tried in turn, until one goes to a bone that is not free.
+// The arc that is tried after an arc of bone b, 896 where there is none. Arcs to greater bones come first, and each has the next noted.
+// Arcs to lesser bones are of pairs listed one after the other, so the next is of the pair before, if that is b's too.
+fn after(ways: &[u32; 448], next: &[u16; 448], arc: usize, b: usize) -> usize
+    requires { ⌜ arc < 896 ⌝ }
+{
+    let q = arc / 2;
+    if arc % 2 == 1 {
+        return arc_of(next[q]);
+    }
+    if 0 < q {
+        if end_x(ways[q - 1]) == b {
+            return arc - 2;
+        }
+    }
+    896
+}
+
+// The arcs of bone b are tried in turn, each below the one before, until one goes to a bone that is not free.
 fn spread(
     ways: &[u32; 448],
-    next: &[u16; 896],
+    next: &[u16; 448],
     first: &[u16; 128],
     res: &[u32; 448],
     free: &[u8; 128],
@@ -88,17 +105,14 @@ fn spread(
 {
     let mut got = front;
     let mut arc = arc_of(first[b]);
-    let mut turns: usize = 0;
-    while turns < 128 {
-        if 896 <= arc {
-            return got;
-        }
+    let mut before = 896;
+    while arc < before {
         got = try_arc(ways, res, free, arc, path, queue, got);
         if got.met < 128 {
             return got;
         }
-        arc = arc_of(next[arc]);
-        turns += 1;
+        before = arc;
+        arc = after(ways, next, arc, b);
     }
     got
 }
@@ -107,7 +121,7 @@ fn spread(
 // the arc that it was reached over, for t the greatest number, and for any other bone nought, as it had at first.
 pub(crate) fn reach(
     ways: &[u32; 448],
-    next: &[u16; 896],
+    next: &[u16; 448],
     first: &[u16; 128],
     res: &[u32; 448],
     free: &[u8; 128],

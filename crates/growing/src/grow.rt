@@ -119,9 +119,8 @@ fn spread(
     ensures { λ r. ⌜ Reached n (held (now (table .entry))) k (pile n (heapOf (now (names .entry))) p) p (now (free .exit)) (r .light) (r .left) (r .weight) ⌝ }
 {
     let mut ways = [0u32; 448];
-    let mut next = [0u16; 896];
+    let mut next = [0u16; 448];
     let mut first = [0u16; 128];
-    let mut res = [0u32; 448];
     let mut ties = [0u64; 128];
     add_row(table, n, p, &mut ties);
     let mut out = own;
@@ -155,7 +154,6 @@ fn spread(
             &mut next,
             &mut first,
             pairs,
-            &mut res,
             free,
         );
         let v = got.bone;

@@ -23,17 +23,15 @@ fn probe_listed(
     p: usize,
     t: usize,
     ways: &[u32; 448],
-    next: &[u16; 896],
+    next: &[u16; 448],
     first: &[u16; 128],
     m: usize,
-    res: &mut [u32; 448],
     free: &mut [u8; 128],
 ) -> Shown
-    requires { ⌜ (n ≤ 128) × (length (now free) ≡ 128) × (length (now res) ≡ 448) × T (marked (now free) t) ⌝ }
+    requires { ⌜ (n ≤ 128) × (length (now free) ≡ 128) × T (marked (now free) t) ⌝ }
     requires { ⌜ ((x : ℕ) → T (marked (now free) x) → T (beside (pile n (heapOf (now names)) p) p x)) ⌝ }
     requires { ⌜ Ready n (held (now table)) k (pile n (heapOf (now names)) p) (now ways) m ⌝ }
     ensures { λ r. ⌜ Probed n (held (now (table .entry))) k (pile n (heapOf (now (names .entry))) p) p t (now (free .entry)) (now (free .exit)) (r .verdict) (r .weight) ⌝ }
-    ensures { λ r. ⌜ length (now (res .exit)) ≡ 448 ⌝ }
 {
     if 448 < m {
         return Shown {
@@ -42,7 +40,7 @@ fn probe_listed(
         };
     }
     let mut seen = [0u8; 128];
-    let got = flow(ways, next, first, m, k, free, t, res, &mut seen);
+    let got = flow(ways, next, first, m, k, free, t, &mut seen);
     let verdict = got.verdict;
     if verdict == 2 {
         *free = seen;
@@ -67,34 +65,19 @@ pub(crate) fn probe(
     p: usize,
     t: usize,
     ways: &mut [u32; 448],
-    next: &mut [u16; 896],
+    next: &mut [u16; 448],
     first: &mut [u16; 128],
     m: usize,
-    res: &mut [u32; 448],
     free: &mut [u8; 128],
 ) -> Finding
-    requires { ⌜ (n ≤ 128) × (length (now free) ≡ 128) × (length (now res) ≡ 448) × T (marked (now free) t) ⌝ }
+    requires { ⌜ (n ≤ 128) × (length (now free) ≡ 128) × T (marked (now free) t) ⌝ }
     requires { ⌜ ((x : ℕ) → T (marked (now free) x) → T (beside (pile n (heapOf (now names)) p) p x)) ⌝ }
     requires { ⌜ Ready n (held (now table)) k (pile n (heapOf (now names)) p) (now ways) m ⌝ }
     ensures { λ r. ⌜ Probed n (held (now (table .entry))) k (pile n (heapOf (now (names .entry))) p) p t (now (free .entry)) (now (free .exit)) (r .verdict) (r .weight) ⌝ }
-    ensures { λ r. ⌜ length (now (res .exit)) ≡ 448 ⌝ }
     ensures { λ r. ⌜ Ready n (held (now (table .entry))) k (pile n (heapOf (now (names .entry))) p) (now (ways .exit)) (r .pairs) ⌝ }
 {
     let pairs = list_once(table, names, n, k, p, ways, next, first, m);
-    let got = probe_listed(
-        table,
-        names,
-        n,
-        k,
-        p,
-        t,
-        ways,
-        next,
-        first,
-        pairs,
-        res,
-        free,
-    );
+    let got = probe_listed(table, names, n, k, p, t, ways, next, first, pairs, free);
     Finding {
         verdict: got.verdict,
         weight: got.weight,

@@ -153,18 +153,16 @@ pub(crate) fn choose(
     degrees: &[u64; 128],
     ties: &[u64; 128],
     ways: &mut [u32; 448],
-    next: &mut [u16; 896],
+    next: &mut [u16; 448],
     first: &mut [u16; 128],
     m: usize,
-    res: &mut [u32; 448],
     free: &mut [u8; 128],
 ) -> Choice
-    requires { ⌜ (n ≤ 128) × (length (now res) ≡ 448) ⌝ }
+    requires { ⌜ n ≤ 128 ⌝ }
     requires { ⌜ Spread n (held (now table)) k (pile n (heapOf (now names)) p) p (now free) (now degrees) (now ties) ⌝ }
     requires { ⌜ Ready n (held (now table)) k (pile n (heapOf (now names)) p) (now ways) m ⌝ }
     ensures { λ r. ⌜ Chosen n (held (now (table .entry))) k (pile n (heapOf (now (names .entry))) p) p (now (free .entry)) (now (free .exit)) (r .bone) (r .light) (r .weight) ⌝ }
     ensures { λ r. ⌜ Ready n (held (now (table .entry))) k (pile n (heapOf (now (names .entry))) p) (now (ways .exit)) (r .pairs) ⌝ }
-    ensures { λ r. ⌜ length (now (res .exit)) ≡ 448 ⌝ }
 {
     let v = tied(free, degrees, ties, n, k);
     if v < 128 {
@@ -178,7 +176,7 @@ pub(crate) fn choose(
     if k <= two {
         return joining(t, m);
     }
-    let got = probe(table, names, n, k, p, t, ways, next, first, m, res, free);
+    let got = probe(table, names, n, k, p, t, ways, next, first, m, free);
     let verdict = got.verdict;
     let pairs = got.pairs;
     if verdict == 1 {

@@ -1,5 +1,6 @@
 // The pairs of a pile that have a tally, each listed once with its ends and its room: the tally, k at most. From every bone lead the arcs of
 // its pairs: arc 2 q goes from end x of pair q to end y, arc 2 q + 1 back. The arcs are for finding a path, and nothing is promised of them.
+// End x is the greater bone, and its pairs with lesser ones are listed together: only for the arcs back is it noted which comes next.
 use crate::row::pair;
 use pairs::numbers::bone;
 ghost use mathlib.Core.Path.{_≡_};
@@ -21,21 +22,20 @@ fn room_of(table: &[u32; 16384], k: u32, i: usize, j: usize) -> u32
     if w < k as u64 { w as u32 } else { k }
 }
 
-// The two arcs of pair m are put before those that its ends have already.
-fn put_arcs(next: &mut [u16; 896], first: &mut [u16; 128], m: usize, x: usize, y: usize)
+// The two arcs of pair m are put before those that its ends have already. All that x has are of the pairs listed just before.
+fn put_arcs(next: &mut [u16; 448], first: &mut [u16; 128], m: usize, x: usize, y: usize)
     requires { ⌜ (m < 448) × (x < 128) × (y < 128) ⌝ }
 {
-    let a = 2 * m;
-    next[a] = first[x];
-    first[x] = a as u16;
-    next[a + 1] = first[y];
-    first[y] = (a + 1) as u16;
+    let arc = 2 * m;
+    first[x] = arc as u16;
+    next[m] = first[y];
+    first[y] = (arc + 1) as u16;
 }
 
 // Pair m is listed, and its two arcs.
 fn put_way(
     ways: &mut [u32; 448],
-    next: &mut [u16; 896],
+    next: &mut [u16; 448],
     first: &mut [u16; 128],
     m: usize,
     x: usize,
@@ -60,7 +60,7 @@ fn list_pair(
     i: usize,
     j: usize,
     ways: &mut [u32; 448],
-    next: &mut [u16; 896],
+    next: &mut [u16; 448],
     first: &mut [u16; 128],
     m: usize,
 ) -> usize
@@ -91,7 +91,7 @@ fn list_row(
     p: usize,
     i: usize,
     ways: &mut [u32; 448],
-    next: &mut [u16; 896],
+    next: &mut [u16; 448],
     first: &mut [u16; 128],
     m: usize,
 ) -> usize
@@ -116,7 +116,7 @@ fn list_bone(
     p: usize,
     i: usize,
     ways: &mut [u32; 448],
-    next: &mut [u16; 896],
+    next: &mut [u16; 448],
     first: &mut [u16; 128],
     m: usize,
 ) -> usize
@@ -149,7 +149,7 @@ fn list_ways(
     k: u64,
     p: usize,
     ways: &mut [u32; 448],
-    next: &mut [u16; 896],
+    next: &mut [u16; 448],
     first: &mut [u16; 128],
 ) -> usize
     requires { ⌜ (n ≤ 128) × (length (now ways) ≡ 448) ⌝ }
@@ -175,7 +175,7 @@ pub(crate) fn list_once(
     k: u64,
     p: usize,
     ways: &mut [u32; 448],
-    next: &mut [u16; 896],
+    next: &mut [u16; 448],
     first: &mut [u16; 128],
     m: usize,
 ) -> usize

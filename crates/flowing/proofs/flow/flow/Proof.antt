@@ -1,4 +1,4 @@
--- `flowing::flow::flow` meets its contract: what is asked of no bone, or of too many pairs, is not known. Assumes nothing.
+-- `flowing::flow::flow` meets its contract: what is asked of no bone, of too many pairs or of a k too great is not known. Assumes nothing.
 use mathlib.Core.Path.{refl}
 use borrow.Author.Needs.{needs}
 use Rattle.flowing.proofs.ProbeSent.{unknown}
@@ -12,10 +12,7 @@ returns : tie.Need-returns
 returns c = search needs
 
 returns-2 : tie.Need-returns-2
-returns-2 c = (unknown refl, refl)
-
-returns-3 : tie.Need-returns-3
-returns-3 c = (unknown refl, refl)
+returns-2 c = unknown refl
 
 pub flow-spec : {M : Type 1} → statement M
-flow-spec = tie.close (tie.spec flow-within-requires returns returns-2 returns-3)
+flow-spec = tie.close (tie.spec flow-within-requires returns returns-2)

@@ -3,29 +3,26 @@
 use Prim.Native.Nat.{_-_}
 use native.Mathlib.Omega.{arith}
 use borrow.Author.Needs.{needs}
-use mathlib.Core.Path.{_≡_}
+use mathlib.Core.Path.{_≡_, refl}
 use lib.ListN.{length}
 use Rattle.flowing.specs.Flow.{waysOf, leftOf, unmarked, Sent}
-use Rattle.flowing.proofs.ProbeSent.{unknown, sent-first, sent-heavy}
+use Rattle.flowing.proofs.ProbeSent.{sent-first, sent-heavy}
 use Rattle.flowing.proofs.flow.flow_within.Statement.{statement}
 use Rattle.flowing.proofs.flow.flow_within.Tie as tie
 
 abbrev Inv-loop : tie.InvT-loop
-Inv-loop ways next first m k free t res₀ seen₀ sent₀ res seen sent =
-    (length res ≡ 448) × (length seen ≡ 128) × Sent (waysOf ways m) (leftOf res) t (unmarked free) sent t 0
+Inv-loop ways next first m k free t seen₀ res₀ sent₀ seen res sent =
+    (length res ≡ 448) × Sent (waysOf ways m) (leftOf res) t (unmarked free) sent t 0
 
 abbrev μ-loop : tie.MeasureT-loop
-μ-loop ways next first m k free t res₀ seen₀ sent₀ res seen sent = k - sent
-
-returns : tie.Need-returns Inv-loop μ-loop
-returns c = (unknown (c .before .pre .3), c .before .pre .2)
+μ-loop ways next first m k free t seen₀ res₀ sent₀ seen res sent = k - sent
 
 start-requires : tie.Need-start-requires Inv-loop μ-loop
 start-requires c κs = search needs
 
 loop-holds : tie.Need-loop-holds Inv-loop μ-loop
 unfolding waysOf
-loop-holds c = (c .start .ensures .0, c .before .before .before .pre .3, sent-first _ _ _ _ (c .start .ensures .1))
+loop-holds c = (c .start .ensures .0, sent-first _ _ _ _ (c .start .ensures .1))
 
 sub-want : tie.Need-sub-want Inv-loop μ-loop
 sub-want c = search needs
@@ -34,17 +31,15 @@ cast-round : tie.Need-cast-round Inv-loop μ-loop
 cast-round c = search needs
 
 round-requires : tie.Need-round-requires Inv-loop μ-loop
-round-requires c κs =
-    let s = c .before .before .before .before .before .before .before in
-    (s .pre .0, s .pre .1, c .before .before .before .loop .inv .0, c .before .before .before .loop .inv .1)
+round-requires c κs = search needs
 
 settle-requires : tie.Need-settle-requires Inv-loop μ-loop
 settle-requires c κs =
-    let s = c .before .before .before .before .before .before .before .before .before .before in
-    ((s .pre .0, s .pre .1), c .before .before .round .ensures .1 .1 .0 (c .before .if2 .taken))
+    let s = c .before .before .before .before .before .before .before .before .before in
+    ((s .pre .0, s .pre .1), c .before .before .round .ensures .1 .1 (c .before .if1 .taken))
 
-returns-2 : tie.Need-returns-2 Inv-loop μ-loop
-returns-2 c = (c .settle .ensures, c .before .before .before .round .ensures .0)
+returns : tie.Need-returns Inv-loop μ-loop
+returns c = c .settle .ensures
 
 cast-sent : tie.Need-cast-sent Inv-loop μ-loop
 cast-sent c = search needs
@@ -59,19 +54,17 @@ loop-again : tie.Need-loop-again Inv-loop μ-loop
 loop-again c =
     let r = c .before .round .ensures in
     let l = c .before .before .before .before .before .loop in
-    (r .0, r .1 .1 .1, r .1 .0 (omega arith) .sends (l .sent) (l .inv .2))
+    (r .0, r .1 .0 (omega arith) .sends (l .sent) (l .inv .1))
 
-returns-3 : tie.Need-returns-3 Inv-loop μ-loop
-returns-3 c =
+returns-2 : tie.Need-returns-2 Inv-loop μ-loop
+returns-2 c =
     let a = c .before .before .before .before .before .args in
-    let l = c .before .loop in (
-      record {
-        long = l .inv .1;
-        heavy = λ e. sent-heavy (waysOf (a .ways .now) (a .m)) (leftOf (l .res)) (a .t) (unmarked (a .free .now)) (l .sent) (a .k) (l .inv .2) (c .loop-test .left);
-        low = λ e. absurd (omega arith);
-      },
-      l .inv .0,
-    )
+    let l = c .before .before .loop in
+    record {
+      long = refl;
+      heavy = λ e. sent-heavy (waysOf (a .ways .now) (a .m)) (leftOf (l .res)) (a .t) (unmarked (a .free .now)) (l .sent) (a .k) (l .inv .1) (c .before .loop-test .left);
+      low = λ e. absurd (omega arith);
+    }
 
 pub flow-within-spec : {M : Type 1} → statement M
 flow-within-spec =
@@ -79,16 +72,15 @@ flow-within-spec =
     (tie.spec
     Inv-loop
     μ-loop
-    returns
     start-requires
     loop-holds
     sub-want
     cast-round
     round-requires
     settle-requires
-    returns-2
+    returns
     cast-sent
     add-sent
     loop-less
     loop-again
-    returns-3)
+    returns-2)

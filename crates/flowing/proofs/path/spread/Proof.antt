@@ -1,15 +1,15 @@
--- `flowing::path::spread` meets its contract: no turn queues more than 128 bones.
+-- `flowing::path::spread` meets its contract: no turn queues more than 128 bones, and each arc is below the one before.
 -- Assumes nothing.
-use Prim.Native.Nat.{_-_, _≤_}
+use Prim.Native.Nat.{_≤_}
 use borrow.Author.Needs.{needs}
 use Rattle.flowing.proofs.path.spread.Statement.{statement}
 use Rattle.flowing.proofs.path.spread.Tie as tie
 
 abbrev Inv-loop : tie.InvT-loop
-Inv-loop ways next first res inside b path₀ queue₀ got₀ arc₀ turns₀ path queue got arc turns = (turns ≤ 128) × (got .tail ≤ 128)
+Inv-loop ways next first res inside b path₀ queue₀ got₀ arc₀ before₀ path queue got arc before = (before ≤ 896) × (got .tail ≤ 128)
 
 abbrev μ-loop : tie.MeasureT-loop
-μ-loop ways next first res inside b path₀ queue₀ got₀ arc₀ turns₀ path queue got arc turns = 128 - turns
+μ-loop ways next first res inside b path₀ queue₀ got₀ arc₀ before₀ path queue got arc before = before
 
 mul-arc-of : tie.Need-mul-arc-of Inv-loop μ-loop
 mul-arc-of c = search needs
@@ -23,26 +23,14 @@ arc-of-requires c κs = search needs
 loop-holds : tie.Need-loop-holds Inv-loop μ-loop
 loop-holds c = search needs
 
-returns : tie.Need-returns Inv-loop μ-loop
-returns c = search needs
-
 try-arc-requires : tie.Need-try-arc-requires Inv-loop μ-loop
 try-arc-requires c κs = search needs
 
-returns-2 : tie.Need-returns-2 Inv-loop μ-loop
-returns-2 c = search needs
+returns : tie.Need-returns Inv-loop μ-loop
+returns c = search needs
 
-mul-arc-of-2 : tie.Need-mul-arc-of-2 Inv-loop μ-loop
-mul-arc-of-2 c = search needs
-
-element-copy-out-arc-of-2 : tie.Need-element-copy-out-arc-of-2 Inv-loop μ-loop
-element-copy-out-arc-of-2 c = search needs
-
-arc-of-requires-2 : tie.Need-arc-of-requires-2 Inv-loop μ-loop
-arc-of-requires-2 c κs = search needs
-
-add-turns : tie.Need-add-turns Inv-loop μ-loop
-add-turns c = search needs
+after-requires : tie.Need-after-requires Inv-loop μ-loop
+after-requires c κs = search needs
 
 loop-less : tie.Need-loop-less Inv-loop μ-loop
 loop-less c = search needs
@@ -50,8 +38,8 @@ loop-less c = search needs
 loop-again : tie.Need-loop-again Inv-loop μ-loop
 loop-again c = search needs
 
-returns-3 : tie.Need-returns-3 Inv-loop μ-loop
-returns-3 c = search needs
+returns-2 : tie.Need-returns-2 Inv-loop μ-loop
+returns-2 c = search needs
 
 pub spread-spec : {M : Type 1} → statement M
 spread-spec =
@@ -63,13 +51,9 @@ spread-spec =
     element-copy-out-arc-of
     arc-of-requires
     loop-holds
-    returns
     try-arc-requires
-    returns-2
-    mul-arc-of-2
-    element-copy-out-arc-of-2
-    arc-of-requires-2
-    add-turns
+    returns
+    after-requires
     loop-less
     loop-again
-    returns-3)
+    returns-2)

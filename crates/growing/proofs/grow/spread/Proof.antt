@@ -7,7 +7,7 @@ use mathlib.Core.List.{List}
 use native.Mathlib.Nat.{le-refl}
 use native.Mathlib.Omega.{arith}
 use lib.Dec.{T}
-use lib.ListN.{length, getD, set, length-replicate}
+use lib.ListN.{getD, set, length-replicate}
 use Rattle.meaning.specs.Count.{Bones}
 use Rattle.meaning.specs.Heap.{pile, stands}
 use Rattle.meaning.proofs.Heaps.{pile-bone}
@@ -24,15 +24,14 @@ use Rattle.growing.proofs.grow.spread.Statement.{statement}
 use Rattle.growing.proofs.grow.spread.Tie as tie
 
 abbrev Inv-loop : tie.InvT-loop
-Inv-loop table names n k p own others degrees free₀ ways₀ next₀ first₀ res₀ ties₀ out₀ left₀ pairs₀ free ways next first res ties out left pairs =
+Inv-loop table names n k p own others degrees free₀ ways₀ next₀ first₀ ties₀ out₀ left₀ pairs₀ free ways next first ties out left pairs =
     Spread n (held table) k (pile n (heapOf names) p) p free degrees ties
     × Measured n (held table) (pile n (heapOf names) p) free ties out left
     × Ready n (held table) k (pile n (heapOf names) p) ways pairs
-    × (length res ≡ 448)
     × (left ≤ others)
 
 abbrev μ-loop : tie.MeasureT-loop
-μ-loop table names n k p own others degrees free₀ ways₀ next₀ first₀ res₀ ties₀ out₀ left₀ pairs₀ free ways next first res ties out left pairs = left
+μ-loop table names n k p own others degrees free₀ ways₀ next₀ first₀ ties₀ out₀ left₀ pairs₀ free ways next first ties out left pairs = left
 
 -- the pile, its bones, and that p is one of them
 abbrev pile-of : tie.Start Inv-loop μ-loop → Bones
@@ -55,7 +54,7 @@ loop-holds c =
     let s = c .before .before in
     let start = spread-start (s .args .n) (held (s .args .table .now)) (held-symmetric (s .args .table .now)) (s .args .k) (pile-of s) (s .args .p) (below-of s) (s .pre .0 .0) (standing s) (s .args .free .now) (s .pre .1 .1 .1 .0) in
     let size = measured-start (s .args .n) (held (s .args .table .now)) (held-symmetric (s .args .table .now)) (s .args .k) (pile-of s) (s .args .p) (below-of s) (s .pre .0 .0) (standing s) (s .args .free .now) (s .pre .1 .1 .1 .0) in
-    (start _ (c .add-row .ensures) _ (s .pre .1 .1 .0 .2) (s .pre .1 .1 .1 .1), size _ (c .add-row .ensures) _ _ (s .pre .1 .0 .0) (s .pre .1 .0 .1) (s .pre .1 .1 .0 .0) (s .pre .1 .1 .0 .1), ready-none refl (omega arith), refl, le-refl _)
+    (start _ (c .add-row .ensures) _ (s .pre .1 .1 .0 .2) (s .pre .1 .1 .1 .1), size _ (c .add-row .ensures) _ _ (s .pre .1 .0 .0) (s .pre .1 .0 .1) (s .pre .1 .1 .0 .0) (s .pre .1 .1 .0 .1), ready-none refl (omega arith), le-refl _)
 
 returns : tie.Need-returns Inv-loop μ-loop
 returns c =
@@ -69,7 +68,7 @@ add-all-tied c =
     omega (arith, s .pre .0 .0, s .pre .1 .1 .0 .1)
 
 sub-all-tied : tie.Need-sub-all-tied Inv-loop μ-loop
-sub-all-tied c = omega (arith, c .before .before .before .before .loop .inv .4)
+sub-all-tied c = omega (arith, c .before .before .before .before .loop .inv .3)
 
 all-tied-requires : tie.Need-all-tied-requires Inv-loop μ-loop
 all-tied-requires c κs =
@@ -84,21 +83,21 @@ returns-2 c =
 
 choose-requires : tie.Need-choose-requires Inv-loop μ-loop
 choose-requires c κs =
-    let s = c .before .before .before .before .before .before .before .before .before .before .before .before .before .before .before in
-    let l = c .before .before .before .before .before .before .before .before .before .before .before .before .loop in
-    ((s .pre .0 .0, l .inv .3), (l .inv .0, l .inv .2))
+    let s = c .before .before .before .before .before .before .before .before .before .before .before .before .before .before in
+    let l = c .before .before .before .before .before .before .before .before .before .before .before .loop in
+    (s .pre .0 .0, (l .inv .0, l .inv .2))
 
 returns-3 : tie.Need-returns-3 Inv-loop μ-loop
 returns-3 c =
-    let s = c .before .before .before .before .before .before .before .before .before .before .before .before .before .before .before .before .before in
-    let l = c .before .before .before .before .before .before .before .before .before .before .before .before .before .before .loop in
+    let s = c .before .before .before .before .before .before .before .before .before .before .before .before .before .before .before .before in
+    let l = c .before .before .before .before .before .before .before .before .before .before .before .before .before .loop in
     let v = c .before .choose in
     reached-light (s .args .n) (held (s .args .table .now)) (held-symmetric (s .args .table .now)) (s .args .k) (pile-of s) (s .args .p) (below-of s) (v .ensures .0 .found (c .if3 .taken))
 
 returns-4 : tie.Need-returns-4 Inv-loop μ-loop
 returns-4 c =
-    let s = c .before .before .before .before .before .before .before .before .before .before .before .before .before .before .before .before .before .before in
-    let l = c .before .before .before .before .before .before .before .before .before .before .before .before .before .before .before .loop in
+    let s = c .before .before .before .before .before .before .before .before .before .before .before .before .before .before .before .before .before in
+    let l = c .before .before .before .before .before .before .before .before .before .before .before .before .before .before .loop in
     let v = c .before .before .choose in
     subst (λ (m : List ℕ). Reached (s .args .n) (held (s .args .table .now)) (s .args .k) (pile-of s) (s .args .p) m false (l .left) 0) (sym (v .ensures .0 .same (c .before .if3 .left)))
     (reached-dark (s .args .n) (held (s .args .table .now)) (held-symmetric (s .args .table .now)) (s .args .k) (pile-of s) (s .args .p) (below-of s) (l .inv .0) (l .inv .1))
@@ -111,8 +110,8 @@ element-copy-out-out c = c .if4 .left
 
 add-out : tie.Need-add-out Inv-loop μ-loop
 add-out c =
-    let s = c .before .before .before .before .before .before .before .before .before .before .before .before .before .before .before .before .before .before .before in
-    let l = c .before .before .before .before .before .before .before .before .before .before .before .before .before .before .before .before .loop in
+    let s = c .before .before .before .before .before .before .before .before .before .before .before .before .before .before .before .before .before .before in
+    let l = c .before .before .before .before .before .before .before .before .before .before .before .before .before .before .before .loop in
     let v = c .before .before .before .choose in
     omega (arith, out-fits (held-symmetric (s .args .table .now)) (below-of s) (s .pre .0 .0) (l .inv .0) (l .out) (l .left) (l .inv .1) (v .result .bone) (v .ensures .0 .one (c .before .before .if3 .left) (c .before .if4 .left)))
 
@@ -124,15 +123,15 @@ array-read-out c = c .before .if4 .left
 
 mul-out-3 : tie.Need-mul-out-3 Inv-loop μ-loop
 mul-out-3 c =
-    let s = c .before .before .before .before .before .before .before .before .before .before .before .before .before .before .before .before .before .before .before in
-    let l = c .before .before .before .before .before .before .before .before .before .before .before .before .before .before .before .before .loop in
+    let s = c .before .before .before .before .before .before .before .before .before .before .before .before .before .before .before .before .before .before in
+    let l = c .before .before .before .before .before .before .before .before .before .before .before .before .before .before .before .loop in
     let v = c .before .before .before .choose in
     omega (arith, l .inv .0 .most (v .result .bone))
 
 sub-out : tie.Need-sub-out Inv-loop μ-loop
 sub-out c =
-    let s = c .before .before .before .before .before .before .before .before .before .before .before .before .before .before .before .before .before .before .before in
-    let l = c .before .before .before .before .before .before .before .before .before .before .before .before .before .before .before .before .loop in
+    let s = c .before .before .before .before .before .before .before .before .before .before .before .before .before .before .before .before .before .before in
+    let l = c .before .before .before .before .before .before .before .before .before .before .before .before .before .before .before .loop in
     let v = c .before .before .before .choose in
     out-covers (held-symmetric (s .args .table .now)) (below-of s) (s .pre .0 .0) (l .inv .0) (l .out) (l .left) (l .inv .1) (v .result .bone) (v .ensures .0 .one (c .before .before .if3 .left) (c .before .if4 .left))
 
@@ -140,22 +139,22 @@ element-write-free : tie.Need-element-write-free Inv-loop μ-loop
 element-write-free c = c .before .if4 .left
 
 sub-left : tie.Need-sub-left Inv-loop μ-loop
-sub-left c = omega (arith, c .before .before .before .before .before .before .before .before .before .before .before .before .before .before .before .loop-test .taken)
+sub-left c = omega (arith, c .before .before .before .before .before .before .before .before .before .before .before .before .before .before .loop-test .taken)
 
 add-row-requires-2 : tie.Need-add-row-requires-2 Inv-loop μ-loop
 add-row-requires-2 c κs =
-    let s = c .before .before .before .before .before .before .before .before .before .before .before .before .before .before .before .before .before .before .before .before in
-    let l = c .before .before .before .before .before .before .before .before .before .before .before .before .before .before .before .before .before .loop in
+    let s = c .before .before .before .before .before .before .before .before .before .before .before .before .before .before .before .before .before .before .before in
+    let l = c .before .before .before .before .before .before .before .before .before .before .before .before .before .before .before .before .loop in
     let v = c .before .before .before .before .choose in
     ((s .pre .0 .0, beside-below (s .args .n) (pile-of s) (s .args .p) (below-of s) (v .result .bone) (l .inv .0 .others (v .result .bone) (v .ensures .0 .one (c .before .before .before .if3 .left) (c .before .before .if4 .left)))), record { long = l .inv .0 .ties-long; room = λ x. omega (arith, l .inv .0 .most x) })
 
 loop-less : tie.Need-loop-less Inv-loop μ-loop
-loop-less c = omega (arith, c .before .before .before .before .before .before .before .before .before .before .before .before .before .before .before .before .before .loop-test .taken)
+loop-less c = omega (arith, c .before .before .before .before .before .before .before .before .before .before .before .before .before .before .before .before .loop-test .taken)
 
 loop-again : tie.Need-loop-again Inv-loop μ-loop
 loop-again c =
-    let s = c .before .before .before .before .before .before .before .before .before .before .before .before .before .before .before .before .before .before .before .before .before in
-    let l = c .before .before .before .before .before .before .before .before .before .before .before .before .before .before .before .before .before .before .loop in
+    let s = c .before .before .before .before .before .before .before .before .before .before .before .before .before .before .before .before .before .before .before .before in
+    let l = c .before .before .before .before .before .before .before .before .before .before .before .before .before .before .before .before .before .loop in
     let v = c .before .before .before .before .before .choose in
     let n = s .args .n in
     let w = held (s .args .table .now) in
@@ -164,7 +163,7 @@ loop-again c =
     (λ (m : List ℕ). Spread n w (s .args .k) (pile-of s) (s .args .p) (set m (v .result .bone) 0) (s .args .degrees .now) ties × Measured n w (pile-of s) (set m (v .result .bone) 0) ties (l .out + getD (s .args .degrees .now) (v .result .bone) 0 - 2 * getD (l .ties) (v .result .bone) 0) (l .left - 1))
     (sym (v .ensures .0 .same (c .before .before .before .before .if3 .left)))
     (spread-next (held-symmetric (s .args .table .now)) (below-of s) (s .pre .0 .0) (l .inv .0) (l .out) (l .left) (l .inv .1) (v .result .bone) (v .ensures .0 .one (c .before .before .before .before .if3 .left) (c .before .before .before .if4 .left)) ties (c .add-row2 .ensures) (v .ensures .0 .joins (c .before .before .before .before .if3 .left) (c .before .before .before .if4 .left)), measured-next (held-symmetric (s .args .table .now)) (below-of s) (s .pre .0 .0) (l .inv .0) (l .out) (l .left) (l .inv .1) (v .result .bone) (v .ensures .0 .one (c .before .before .before .before .if3 .left) (c .before .before .before .if4 .left)) ties (c .add-row2 .ensures)) in
-    (grown .0, grown .1, v .ensures .1 .0, v .ensures .1 .1, omega (arith, l .inv .4))
+    (grown .0, grown .1, v .ensures .1, omega (arith, l .inv .3))
 
 returns-5 : tie.Need-returns-5 Inv-loop μ-loop
 returns-5 c =

@@ -1,16 +1,9 @@
 -- `growing::probe::probe_listed` meets its contract, by the verdict.
 -- Assumes nothing.
-use Prim.Native.Nat.{_<_}
-use native.Mathlib.Omega.{arith}
-use mathlib.Core.Path.{refl}
-use mathlib.Core.Bool.{not}
-use lib.Dec.{eqb}
 use Rattle.meaning.specs.Heap.{pile}
-use Rattle.meaning.proofs.Tests.{left-of}
 use Rattle.meaning.proofs.Heaps.{pile-bone}
 use Rattle.pairs.specs.Table.{held}
 use Rattle.pairs.specs.Side.{heapOf}
-use Rattle.growing.specs.Grow.{beside}
 use Rattle.flowing.specs.Flow.{waysOf}
 use Rattle.pairs.proofs.TableHeld.{held-symmetric}
 use Rattle.growing.proofs.ProbeWeighs.{probed-light, probed-none, probed-nothing}
@@ -19,38 +12,26 @@ use Rattle.growing.proofs.probe.probe_listed.Statement.{statement}
 use Rattle.growing.proofs.probe.probe_listed.Tie as tie
 
 returns : tie.Need-returns
-returns c = (probed-nothing, c .before .pre .0 .2)
-
--- the bone probed is in the pile
-bone-below : (c : tie.Start) → c .args .t < 128
-unfolding beside
-bone-below c =
-    let a = c .args in
-    let S = pile (a .n) (heapOf (a .names .now)) (a .p) in
-    omega (arith, pile-bone (a .n) (heapOf (a .names .now)) (a .p) (a .t) (left-of (S (a .t)) (not (eqb (a .t) (a .p))) (c .pre .1 .0 (a .t) (c .pre .0 .3))), c .pre .0)
+returns c = probed-nothing
 
 flow-requires : tie.Need-flow-requires
 flow-requires c κs = search needs
 
 returns-2 : tie.Need-returns-2
 returns-2 c =
-    let s = c .before .before .before .before .before .before in
+    let s = c .before .before .before .before .before in
     let a = s .args in
-    let S = pile (a .n) (heapOf (a .names .now)) (a .p) in (
-      probed-light (a .n) (held (a .table .now)) (a .k) S (waysOf (a .ways .now) (a .m)) (s .pre .1 .1 .lists (c .before .before .before .before .before .if1 .left)) (a .t) (a .free .now) _ _ _ (c .before .flow .ensures .0)
-          (a .p) (pile-bone (a .n) (heapOf (a .names .now)) (a .p)) (s .pre .1 .0) (c .if2 .taken),
-      c .before .flow .ensures .1,
-    )
+    let S = pile (a .n) (heapOf (a .names .now)) (a .p) in
+    probed-light (a .n) (held (a .table .now)) (a .k) S (waysOf (a .ways .now) (a .m)) (s .pre .1 .1 .lists (c .before .before .before .before .if1 .left)) (a .t) (a .free .now) _ _ _ (c .before .flow .ensures)
+    (a .p) (pile-bone (a .n) (heapOf (a .names .now)) (a .p)) (s .pre .1 .0) (c .if2 .taken)
 
 returns-3 : tie.Need-returns-3
 returns-3 c =
-    let s = c .before .before .before .before .before .before in
+    let s = c .before .before .before .before .before in
     let a = s .args in
-    let S = pile (a .n) (heapOf (a .names .now)) (a .p) in (
-      probed-none (a .n) (held (a .table .now)) (a .k) S (waysOf (a .ways .now) (a .m)) (s .pre .1 .1 .lists (c .before .before .before .before .before .if1 .left)) (a .t) (a .free .now) _ _ _ (c .before .flow .ensures .0)
-          (a .p) (pile-bone (a .n) (heapOf (a .names .now)) (a .p)) (s .pre .1 .0) (held-symmetric (a .table .now)) (s .pre .0 .3) (c .if2 .left),
-      c .before .flow .ensures .1,
-    )
+    let S = pile (a .n) (heapOf (a .names .now)) (a .p) in
+    probed-none (a .n) (held (a .table .now)) (a .k) S (waysOf (a .ways .now) (a .m)) (s .pre .1 .1 .lists (c .before .before .before .before .if1 .left)) (a .t) (a .free .now) _ _ _ (c .before .flow .ensures)
+    (a .p) (pile-bone (a .n) (heapOf (a .names .now)) (a .p)) (s .pre .1 .0) (held-symmetric (a .table .now)) (s .pre .0 .2) (c .if2 .left)
 
 pub probe-listed-spec : {M : Type 1} → statement M
 probe-listed-spec = tie.close (tie.spec returns flow-requires returns-2 returns-3)

@@ -35,8 +35,8 @@ returns : tie.Need-returns
 returns c =
     let s = c .before .before .before .before in
     let r = c .before .before .tied in (
-      chosen (r .result) (c .joining .ensures .0) (c .joining .ensures .1) (r .ensures .one) (λ h. rule-tied (held-symmetric (s .args .table .now)) (pile-bone (s .args .n) (heapOf (s .args .names .now)) (s .args .p)) (s .pre .0 .0) (s .pre .1 .0) (r .result) h (r .ensures)),
-      (still s (c .joining .ensures .2), s .pre .0 .1),
+      chosen (r .result) (c .joining .ensures .0) (c .joining .ensures .1) (r .ensures .one) (λ h. rule-tied (held-symmetric (s .args .table .now)) (pile-bone (s .args .n) (heapOf (s .args .names .now)) (s .args .p)) (s .pre .0) (s .pre .1 .0) (r .result) h (r .ensures)),
+      still s (c .joining .ensures .2),
     )
 
 nearest-requires : tie.Need-nearest-requires
@@ -50,14 +50,14 @@ returns-2 c =
     let s = c .before .before .before .before .before .before .before in
     let t = c .before .before .nearest in (
       chosen (t .result) (c .joining2 .ensures .0) (c .joining2 .ensures .1) (λ h. absurd (omega (arith, c .before .if2 .taken))) (λ h. absurd (omega (arith, c .before .if2 .taken))),
-      (still s (c .joining2 .ensures .2), s .pre .0 .1),
+      still s (c .joining2 .ensures .2),
     )
 
 steps-of-requires : tie.Need-steps-of-requires
 steps-of-requires c κs =
     let s = c .before .before .before .before .before .before .before in
     let t = c .before .before .nearest in
-    (s .pre .0 .0, beside-below (s .args .n) (pile (s .args .n) (heapOf (s .args .names .now)) (s .args .p)) (s .args .p) (pile-bone (s .args .n) (heapOf (s .args .names .now)) (s .args .p)) (t .result) (s .pre .1 .0 .others (t .result) (t .ensures (c .before .if2 .left))), s .pre .1 .0 .most (t .result))
+    (s .pre .0, beside-below (s .args .n) (pile (s .args .n) (heapOf (s .args .names .now)) (s .args .p)) (s .args .p) (pile-bone (s .args .n) (heapOf (s .args .names .now)) (s .args .p)) (t .result) (s .pre .1 .0 .others (t .result) (t .ensures (c .before .if2 .left))), s .pre .1 .0 .most (t .result))
 
 joining-requires-3 : tie.Need-joining-requires-3
 joining-requires-3 c κs = search needs
@@ -66,22 +66,22 @@ returns-3 : tie.Need-returns-3
 returns-3 c =
     let s = c .before .before .before .before .before .before .before .before .before .before in
     let t = c .before .before .before .before .before .nearest in (
-      chosen (t .result) (c .joining3 .ensures .0) (c .joining3 .ensures .1) (t .ensures) (λ h. rule-two (held-symmetric (s .args .table .now)) (pile-bone (s .args .n) (heapOf (s .args .names .now)) (s .args .p)) (s .pre .0 .0) (s .pre .1 .0) (t .result) h (record { one = t .ensures; tie = λ o. omega (arith, c .before .if3 .taken, c .before .before .steps-of .ensures .0) })),
-      (still s (c .joining3 .ensures .2), s .pre .0 .1),
+      chosen (t .result) (c .joining3 .ensures .0) (c .joining3 .ensures .1) (t .ensures) (λ h. rule-two (held-symmetric (s .args .table .now)) (pile-bone (s .args .n) (heapOf (s .args .names .now)) (s .args .p)) (s .pre .0) (s .pre .1 .0) (t .result) h (record { one = t .ensures; tie = λ o. omega (arith, c .before .if3 .taken, c .before .before .steps-of .ensures .0) })),
+      still s (c .joining3 .ensures .2),
     )
 
 probe-requires : tie.Need-probe-requires
 probe-requires c κs =
-    let s = c .before .before .before .before .before .before .before .before .before .before .before .before .before .before in
-    ((s .pre .0 .0, s .pre .1 .0 .long, s .pre .0 .1, c .before .before .before .before .before .before .before .before .before .nearest .ensures (c .before .before .before .before .before .before .before .before .if2 .left)), (s .pre .1 .0 .others, s .pre .1 .1))
+    let s = c .before .before .before .before .before .before .before .before .before .before .before .before .before in
+    ((s .pre .0, s .pre .1 .0 .long, c .before .before .before .before .before .before .before .before .nearest .ensures (c .before .before .before .before .before .before .before .if2 .left)), (s .pre .1 .0 .others, s .pre .1 .1))
 
 joining-requires-4 : tie.Need-joining-requires-4
 joining-requires-4 c κs = search needs
 
 returns-4 : tie.Need-returns-4
 returns-4 c =
-    let s = c .before .before .before .before .before .before .before .before .before .before .before .before .before .before .before .before .before in
-    let t = c .before .before .before .before .before .before .before .before .before .before .before .before .nearest in
+    let s = c .before .before .before .before .before .before .before .before .before .before .before .before .before .before .before .before in
+    let t = c .before .before .before .before .before .before .before .before .before .before .before .nearest in
     let r = c .before .before .probe .ensures in
     let told = c .before .if4 .taken in
     let n = s .args .n in
@@ -90,8 +90,8 @@ returns-4 c =
       subst
           (λ (m : List ℕ). Chosen n w (s .args .k) S (s .args .p) (s .args .free .now) m (c .joining4 .result .bone) (c .joining4 .result .light) (c .joining4 .result .weight))
           (sym (r .0 .same (λ e. omega (arith, told))))
-          (chosen (t .result) (c .joining4 .ensures .0) (c .joining4 .ensures .1) (t .ensures) (λ h. rule-probed (held-symmetric (s .args .table .now)) (pile-bone n (heapOf (s .args .names .now)) (s .args .p)) (s .pre .0 .0) (s .pre .1 .0) (t .result) (t .ensures h) (r .0 .tied told))),
-      (subst (Ready n w (s .args .k) S _) (sym (c .joining4 .ensures .2)) (r .1 .1), r .1 .0),
+          (chosen (t .result) (c .joining4 .ensures .0) (c .joining4 .ensures .1) (t .ensures) (λ h. rule-probed (held-symmetric (s .args .table .now)) (pile-bone n (heapOf (s .args .names .now)) (s .args .p)) (s .pre .0) (s .pre .1 .0) (t .result) (t .ensures h) (r .0 .tied told))),
+      subst (Ready n w (s .args .k) S _) (sym (c .joining4 .ensures .2)) (r .1),
     )
 
 returns-5 : tie.Need-returns-5
@@ -103,16 +103,16 @@ returns-5 c =
         one = λ h l. absurd (omega arith);
         joins = λ h l. absurd (omega arith);
       },
-      (r .1 .1, r .1 .0),
+      r .1,
     )
 
 by-three-requires : tie.Need-by-three-requires
 by-three-requires c κs =
-    let s = c .before .before .before .before .before .before .before .before .before .before .before .before .before .before .before .before .before .before in
-    let t = c .before .before .before .before .before .before .before .before .before .before .before .before .before .nearest in (
-      s .pre .0 .0,
-      beside-below (s .args .n) (pile (s .args .n) (heapOf (s .args .names .now)) (s .args .p)) (s .args .p) (pile-bone (s .args .n) (heapOf (s .args .names .now)) (s .args .p)) (t .result) (s .pre .1 .0 .others (t .result) (t .ensures (c .before .before .before .before .before .before .before .before .before .before .before .before .if2 .left))),
-      c .before .before .before .before .before .before .before .before .before .before .steps-of .ensures .1,
+    let s = c .before .before .before .before .before .before .before .before .before .before .before .before .before .before .before .before .before in
+    let t = c .before .before .before .before .before .before .before .before .before .before .before .before .nearest in (
+      s .pre .0,
+      beside-below (s .args .n) (pile (s .args .n) (heapOf (s .args .names .now)) (s .args .p)) (s .args .p) (pile-bone (s .args .n) (heapOf (s .args .names .now)) (s .args .p)) (t .result) (s .pre .1 .0 .others (t .result) (t .ensures (c .before .before .before .before .before .before .before .before .before .before .before .if2 .left))),
+      c .before .before .before .before .before .before .before .before .before .steps-of .ensures .1,
       s .pre .1 .0 .most,
     )
 
@@ -121,33 +121,33 @@ joining-requires-5 c κs = search needs
 
 returns-6 : tie.Need-returns-6
 returns-6 c =
-    let s = c .before .before .before .before .before .before .before .before .before .before .before .before .before .before .before .before .before .before .before .before .before in
-    let t = c .before .before .before .before .before .before .before .before .before .before .before .before .before .before .before .before .nearest in
+    let s = c .before .before .before .before .before .before .before .before .before .before .before .before .before .before .before .before .before .before .before .before in
+    let t = c .before .before .before .before .before .before .before .before .before .before .before .before .before .before .before .nearest in
     let r = c .before .before .before .before .before .before .probe .ensures in
     let same = r .0 .same (c .before .before .before .before .if5 .left) in
     let n = s .args .n in
     let w = held (s .args .table .now) in
     let S = pile n (heapOf (s .args .names .now)) (s .args .p) in
-    let three = subst (λ (m : List ℕ). ByThree n w (s .args .k) (marked m) (s .args .ties .now) (t .result) (c .before .before .before .before .before .before .before .before .before .before .before .before .before .steps-of .result)) same (c .before .before .by-three .ensures (c .before .if6 .taken)) in
-    let tied = subst (ByThree n w (s .args .k) (marked (s .args .free .now)) (s .args .ties .now) (t .result)) (c .before .before .before .before .before .before .before .before .before .before .before .before .before .steps-of .ensures .0) three in (
+    let three = subst (λ (m : List ℕ). ByThree n w (s .args .k) (marked m) (s .args .ties .now) (t .result) (c .before .before .before .before .before .before .before .before .before .before .before .before .steps-of .result)) same (c .before .before .by-three .ensures (c .before .if6 .taken)) in
+    let tied = subst (ByThree n w (s .args .k) (marked (s .args .free .now)) (s .args .ties .now) (t .result)) (c .before .before .before .before .before .before .before .before .before .before .before .before .steps-of .ensures .0) three in (
       subst
           (λ (m : List ℕ). Chosen n w (s .args .k) S (s .args .p) (s .args .free .now) m (c .joining5 .result .bone) (c .joining5 .result .light) (c .joining5 .result .weight))
           (sym same)
-          (chosen (t .result) (c .joining5 .ensures .0) (c .joining5 .ensures .1) (t .ensures) (λ h. rule-three (held-symmetric (s .args .table .now)) (pile-bone n (heapOf (s .args .names .now)) (s .args .p)) (s .pre .0 .0) (s .pre .1 .0) (t .result) (t .ensures h) tied)),
-      (subst (Ready n w (s .args .k) S _) (sym (c .joining5 .ensures .2)) (r .1 .1), r .1 .0),
+          (chosen (t .result) (c .joining5 .ensures .0) (c .joining5 .ensures .1) (t .ensures) (λ h. rule-three (held-symmetric (s .args .table .now)) (pile-bone n (heapOf (s .args .names .now)) (s .args .p)) (s .pre .0) (s .pre .1 .0) (t .result) (t .ensures h) tied)),
+      subst (Ready n w (s .args .k) S _) (sym (c .joining5 .ensures .2)) (r .1),
     )
 
 tied-by-two-requires : tie.Need-tied-by-two-requires
 tied-by-two-requires c κs =
-    let s = c .before .before .before .before .before .before .before .before .before .before .before .before .before .before .before .before .before .before .before .before .before in
-    (s .pre .0 .0, s .pre .1 .0 .most)
+    let s = c .before .before .before .before .before .before .before .before .before .before .before .before .before .before .before .before .before .before .before .before in
+    (s .pre .0, s .pre .1 .0 .most)
 
 joining-requires-6 : tie.Need-joining-requires-6
 joining-requires-6 c κs = search needs
 
 returns-7 : tie.Need-returns-7
 returns-7 c =
-    let s = c .before .before .before .before .before .before .before .before .before .before .before .before .before .before .before .before .before .before .before .before .before .before .before in
+    let s = c .before .before .before .before .before .before .before .before .before .before .before .before .before .before .before .before .before .before .before .before .before .before in
     let u = c .before .tied-by-two in
     let r = c .before .before .before .before .before .before .before .before .probe .ensures in
     let same = r .0 .same (c .before .before .before .before .before .before .if5 .left) in
@@ -158,8 +158,8 @@ returns-7 c =
       subst
           (λ (m : List ℕ). Chosen n w (s .args .k) S (s .args .p) (s .args .free .now) m (c .joining6 .result .bone) (c .joining6 .result .light) (c .joining6 .result .weight))
           (sym same)
-          (chosen (u .result) (c .joining6 .ensures .0) (c .joining6 .ensures .1) (two .one) (λ h. rule-two (held-symmetric (s .args .table .now)) (pile-bone n (heapOf (s .args .names .now)) (s .args .p)) (s .pre .0 .0) (s .pre .1 .0) (u .result) h two)),
-      (subst (Ready n w (s .args .k) S _) (sym (c .joining6 .ensures .2)) (r .1 .1), r .1 .0),
+          (chosen (u .result) (c .joining6 .ensures .0) (c .joining6 .ensures .1) (two .one) (λ h. rule-two (held-symmetric (s .args .table .now)) (pile-bone n (heapOf (s .args .names .now)) (s .args .p)) (s .pre .0) (s .pre .1 .0) (u .result) h two)),
+      subst (Ready n w (s .args .k) S _) (sym (c .joining6 .ensures .2)) (r .1),
     )
 
 pub choose-spec : {M : Type 1} → statement M
