@@ -246,6 +246,19 @@ module _ (n : ℕ) (w : Tally) (k : ℕ) (S : Bones) (p : ℕ) (below : (b : ℕ
         alone = λ h. absurd (subst T h tt);
       }
 
+  -- no more than that every bone is a block
+  pub known-single : {free : List ℕ} → length free ≡ 128 → ((x : ℕ) → n ≤ x → T (not (marked free x))) → Known n w k S p block free false false 0
+  known-single long rest =
+      record {
+        long = single .long;
+        free-long = long;
+        free-rest = rest;
+        names = single-names S old block in-run single;
+        kept = single-kept n w k S old block in-run single;
+        found = λ h. absurd (subst T (sym h) tt);
+        alone = λ h g. absurd (subst T (sym g) tt);
+      }
+
   -- p has no other bone beside it
   pub known-alone : {free : List ℕ} (others : ℕ) → length free ≡ 128 → ((x : ℕ) → marked free x ≡ beside S p x) → others ≡ count n (beside S p) → others ≡ 0 → Known n w k S p block free false true 0
   unfolding beside

@@ -55,13 +55,13 @@ pub record Weighed (n : ℕ) (w : Tally) (k : ℕ) (S : Bones) (degrees : List �
   pub heavy : k ≤ getD degrees b 0
   pub small : getD degrees b 0 ≤ 2 ^ 39
 
--- the first free bone that is a light side by itself, 128 where there is none; then all degrees are noted
+-- the first free bone that is a light side by itself, 128 where there is none, and then all degrees are noted; over 128 nothing is known
 pub record Lone (n : ℕ) (w : Tally) (k : ℕ) (S free : Bones) (degrees : List ℕ) (lone : ℕ) : Type 0 where
   pub long : length degrees ≡ 128
   pub one : lone < 128 → T (free lone)
   pub noted : lone < 128 → getD degrees lone 0 ≡ degree n w S lone
   pub light : lone < 128 → getD degrees lone 0 < k
-  pub none : 128 ≤ lone → (b : ℕ) → b < n → T (free b) → Weighed n w k S degrees b
+  pub none : lone ≡ 128 → (b : ℕ) → b < n → T (free b) → Weighed n w k S degrees b
 
 -- a growth of L from p: L is not divided, and what each bone has to L is known
 pub record Spread (n : ℕ) (w : Tally) (k : ℕ) (S : Bones) (p : ℕ) (free degrees ties : List ℕ) : Type 0 where

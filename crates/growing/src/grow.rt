@@ -7,6 +7,7 @@ use crate::row::add_row;
 use crate::row::degree_of;
 use crate::tied::choose;
 use pairs::numbers::bone;
+use pairs::numbers::wide;
 ghost use mathlib.Core.Path.{_≡_};
 ghost use mathlib.Core.Bool.{true, false, cond, not};
 ghost use Prim.Native.Nat.{ℕ, _<_, _≤_, _^_};
@@ -48,15 +49,15 @@ fn free_others(names: &[u8; 128], n: usize, p: usize, free: &mut [u8; 128]) -> u
     left
 }
 
-// The first free bone that is a light side by itself, 128 where there is none. Degrees are noted on the way. The first m of `who` are the
-// bones of the pile, in order.
+// The first free bone that is a light side by itself, 128 where there is none. Degrees are noted on the way; 129 where one has over 32 bits,
+// which no list of links comes to. The first m of `who` are the bones of the pile, in order.
 fn first_light(
     table: &[u32; 16384],
     who: &[u8; 128],
     m: usize,
     free: &[u8; 128],
     k: u64,
-    degrees: &mut [u64; 128],
+    degrees: &mut [u32; 128],
 ) -> usize
     requires { ⌜ Rising (now who) m × (length (now degrees) ≡ 128) ⌝ }
     ensures { λ r. ⌜ ((n : ℕ) → (S : Bones) → Members S (now (who .entry)) m n → ((x : ℕ) → T (marked (now (free .entry)) x) → T (S x)) → Lone n (held (now (table .entry))) k S (marked (now (free .entry))) (now (degrees .exit)) r) ⌝ }
@@ -65,13 +66,35 @@ fn first_light(
         let b = bone(who[i]);
         if free[b] == 1 {
             let degree = degree_in(table, who, m, i);
-            degrees[b] = degree;
+            if 4294967295 < degree {
+                return 129;
+            }
+            degrees[b] = degree as u32;
             if degree < k {
                 return b;
             }
         }
     }
     128
+}
+
+// The same for the pile named p, of which the free bones are.
+fn lone_light(
+    table: &[u32; 16384],
+    names: &[u8; 128],
+    n: usize,
+    k: u64,
+    p: usize,
+    free: &[u8; 128],
+    degrees: &mut [u32; 128],
+) -> usize
+    requires { ⌜ (n ≤ 128) × (length (now degrees) ≡ 128) ⌝ }
+    requires { ⌜ ((x : ℕ) → T (marked (now free) x) → T (pile n (heapOf (now names)) p x)) ⌝ }
+    ensures { λ r. ⌜ Lone n (held (now (table .entry))) k (pile n (heapOf (now (names .entry))) p) (marked (now (free .entry))) (now (degrees .exit)) r ⌝ }
+{
+    let mut who = [0u8; 128];
+    let m = list_members(names, n, p, &mut who);
+    first_light(table, &who, m, free, k, degrees)
 }
 
 // 1 where the two are the same, else 0.
@@ -108,7 +131,7 @@ fn spread(
     p: usize,
     own: u64,
     others: usize,
-    degrees: &[u64; 128],
+    degrees: &[u32; 128],
     free: &mut [u8; 128],
 ) -> Growth
     requires { ⌜ (n ≤ 128) × T (stands n (heapOf (now names)) p) ⌝ }
@@ -173,7 +196,7 @@ fn spread(
                 weight: 0,
             };
         }
-        out = out + degrees[v] - 2 * ties[v];
+        out = out + wide(degrees[v]) - 2 * ties[v];
         free[v] = 0;
         left = left - 1;
         add_row(table, n, v, &mut ties);
@@ -256,16 +279,21 @@ fn grow_pile(
             weight: 0,
         };
     }
-    let mut who = [0u8; 128];
-    let m = list_members(names, n, p, &mut who);
-    let mut degrees = [0u64; 128];
-    let lone = first_light(table, &who, m, free, k, &mut degrees);
+    let mut degrees = [0u32; 128];
+    let lone = lone_light(table, names, n, k, p, free, &mut degrees);
     if lone < 128 {
         mark_only(n, lone, free);
         return Outcome {
             light: true,
             one: false,
-            weight: degrees[lone],
+            weight: wide(degrees[lone]),
+        };
+    }
+    if 128 < lone {
+        return Outcome {
+            light: false,
+            one: false,
+            weight: 0,
         };
     }
     let own = degree_of(table, names, n, p, p);

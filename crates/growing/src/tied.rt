@@ -3,6 +3,7 @@
 use crate::probe::probe;
 use crate::row::pair;
 use crate::three::by_three;
+use pairs::numbers::wide;
 ghost use mathlib.Core.Path.{_≡_};
 ghost use mathlib.Core.Bool.{cond, false};
 ghost use Prim.Native.Nat.{ℕ, _+_, _*_, _<_, _≤_, _^_, min};
@@ -17,7 +18,7 @@ ghost use Rattle.growing.specs.Grow.{beside, steps, Spread, Tied, ByTwo,
 ghost use Rattle.growing.specs.Listing.{Ready};
 
 // The first free bone that has k or more of its tally, or half of its degree, to the grown set; 128 where there is none.
-fn tied(free: &[u8; 128], degrees: &[u64; 128], ties: &[u64; 128], n: usize, k: u64) -> usize
+fn tied(free: &[u8; 128], degrees: &[u32; 128], ties: &[u64; 128], n: usize, k: u64) -> usize
     requires { ⌜ (n ≤ 128) × ((x : ℕ) → getD (now ties) x 0 ≤ 2 ^ 40) ⌝ }
     ensures { λ r. ⌜ Tied k (marked (now (free .entry))) (now (degrees .entry)) (now (ties .entry)) r ⌝ }
 {
@@ -27,7 +28,7 @@ fn tied(free: &[u8; 128], degrees: &[u64; 128], ties: &[u64; 128], n: usize, k: 
             if k <= tie {
                 return v;
             }
-            if degrees[v] <= 2 * tie {
+            if wide(degrees[v]) <= 2 * tie {
                 return v;
             }
         }
@@ -150,7 +151,7 @@ pub(crate) fn choose(
     n: usize,
     k: u64,
     p: usize,
-    degrees: &[u64; 128],
+    degrees: &[u32; 128],
     ties: &[u64; 128],
     ways: &mut [u32; 448],
     next: &mut [u16; 448],

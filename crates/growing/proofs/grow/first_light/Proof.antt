@@ -48,25 +48,38 @@ element-copy-out-if1 c = omega (arith, c .bone .ensures .0, c .before .before .b
 degree-in-requires : tie.Need-degree-in-requires Inv-loop μ-loop
 degree-in-requires c κs = (omega arith, c .before .before .before .before .before .before .pre .0)
 
+returns : tie.Need-returns Inv-loop μ-loop
+returns c n S members inside =
+    record {
+      long = c .before .before .before .before .before .before .before .loop .inv .1;
+      one = λ h. absurd (omega arith);
+      noted = λ h. absurd (omega arith);
+      light = λ h. absurd (omega arith);
+      none = λ h. absurd (omega arith);
+    }
+
+cast-degrees : tie.Need-cast-degrees Inv-loop μ-loop
+cast-degrees c = omega arith
+
 mul-degrees : tie.Need-mul-degrees Inv-loop μ-loop
-mul-degrees c = omega (arith, c .before .before .before .bone .ensures .1)
+mul-degrees c = omega (arith, c .before .before .before .before .bone .ensures .1)
 
 element-write-degrees : tie.Need-element-write-degrees Inv-loop μ-loop
-element-write-degrees c = omega (arith, c .before .before .before .bone .ensures .0, c .before .before .before .before .before .before .before .pre .0 .low (c .before .before .before .before .before .before .loop .i) (omega arith))
+element-write-degrees c = omega (arith, c .before .before .before .before .bone .ensures .0, c .before .before .before .before .before .before .before .before .pre .0 .low (c .before .before .before .before .before .before .before .loop .i) (omega arith))
 
-returns : tie.Need-returns Inv-loop μ-loop
+returns-2 : tie.Need-returns-2 Inv-loop μ-loop
 unfolding marked
-returns c =
-    let s = c .before .before .before .before .before .before .before .before in
-    let l = c .before .before .before .before .before .before .before .loop in
-    let b = c .before .before .before .before .bone in
-    let d = c .before .degree-in in
+returns-2 c =
+    let s = c .before .before .before .before .before .before .before .before .before in
+    let l = c .before .before .before .before .before .before .before .before .loop in
+    let b = c .before .before .before .before .before .bone in
+    let d = c .before .before .degree-in in
     let here = getD-set-same (l .degrees) (b .result) (d .result) 0 (omega (arith, l .inv .1, b .ensures .0, s .pre .0 .low (l .i) (omega arith))) in
     λ n S members inside. record {
       long = length-set (l .degrees) (b .result) (d .result) ∙ l .inv .1;
-      one = λ h. eq→eqb _ 1 (c .before .before .if1 .taken);
+      one = λ h. eq→eqb _ 1 (c .before .before .before .if1 .taken);
       noted = λ h. here ∙ d .ensures .0 n S members ∙ sym (ap (degree n (held (s .args .table .now)) S) (b .ensures .0));
-      light = λ h. omega (arith, here, c .if2 .taken);
+      light = λ h. omega (arith, here, c .if3 .taken);
       none = λ h. absurd (omega (arith, h, b .ensures .0, s .pre .0 .low (l .i) (omega arith)));
     }
 
@@ -86,9 +99,9 @@ loop-again c =
     ⊎-elim
     (λ w. (
       omega arith,
-      ap length (w .3) ∙ length-set (l .degrees) (b .result) (w .1 .result) ∙ l .inv .1,
-      subst weighed (sym (w .3))
-          (λ n S members. weighed-more n (held (s .args .table .now)) (s .args .k) S (marked (s .args .free .now)) (s .args .who .now) (s .args .m) (l .i) (l .degrees) (l .inv .2 n S members) (b .result) (w .1 .result) (s .pre .0) (omega arith) (b .ensures .0) (l .inv .1) (w .1 .ensures .0 n S members) (w .2 .left) (w .1 .ensures .1)),
+      ap length (w .4) ∙ length-set (l .degrees) (b .result) (w .1 .result) ∙ l .inv .1,
+      subst weighed (sym (w .4))
+          (λ n S members. weighed-more n (held (s .args .table .now)) (s .args .k) S (marked (s .args .free .now)) (s .args .who .now) (s .args .m) (l .i) (l .degrees) (l .inv .2 n S members) (b .result) (w .1 .result) (s .pre .0) (omega arith) (b .ensures .0) (l .inv .1) (w .1 .ensures .0 n S members) (w .3 .left) (w .1 .ensures .1)),
     ))
     (λ w. (
       omega arith,
@@ -98,8 +111,8 @@ loop-again c =
     ))
     (c .if1 .came)
 
-returns-2 : tie.Need-returns-2 Inv-loop μ-loop
-returns-2 c =
+returns-3 : tie.Need-returns-3 Inv-loop μ-loop
+returns-3 c =
     let s = c .before .before in
     let l = c .before .loop in
     let done : l .i ≡ s .args .m = omega arith in
@@ -124,10 +137,12 @@ first-light-spec =
     bone-requires
     element-copy-out-if1
     degree-in-requires
+    returns
+    cast-degrees
     mul-degrees
     element-write-degrees
-    returns
+    returns-2
     add-i
     loop-less
     loop-again
-    returns-2)
+    returns-3)

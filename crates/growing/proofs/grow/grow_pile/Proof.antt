@@ -15,19 +15,18 @@ use Rattle.pairs.specs.Side.{heapOf}
 use Rattle.pairs.specs.Marks.{marked}
 use Rattle.growing.specs.Grow.{beside, Reached}
 use Rattle.pairs.proofs.TableHeld.{held-symmetric}
-use Rattle.growing.proofs.GrowEnds.{marks-as, beside-below, light-lone, known-alone, known-light, known-joined}
+use Rattle.growing.proofs.GrowEnds.{marks-as, beside-below, light-lone, known-alone, known-light, known-single, known-joined}
 use Rattle.growing.proofs.GrowState.{beside-in}
 use borrow.Author.Needs.{needs}
 use Rattle.growing.proofs.grow.grow_pile.Statement.{statement}
 use Rattle.growing.proofs.grow.grow_pile.Tie as tie
 use Rattle.growing.proofs.grow.grow_pile.Reads as reads
 use Rattle.growing.proofs.grow.grow_pile.Lts as lts
-use Rattle.growing.proofs.grow.first_light.Reads as first-light-reads
+use Rattle.growing.proofs.grow.lone_light.Reads as lone-light-reads
 use Rattle.growing.proofs.grow.free_others.Reads as free-others-reads
 use Rattle.growing.proofs.grow.mark_only.Reads as mark-only-reads
 use Rattle.growing.proofs.grow.name_joined.Reads as name-joined-reads
 use Rattle.growing.proofs.grow.spread.Reads as spread-reads
-use Rattle.growing.proofs.members.list_members.Reads as list-members-reads
 use Rattle.growing.proofs.row.degree_of.Reads as degree-of-reads
 use Rattle.growing.proofs.grow.single.Reads as single-reads
 
@@ -65,47 +64,56 @@ returns c =
     let f = c .before in
     known-alone (s .args .n) (held (s .args .table .now)) (s .args .k) (pile-of s) (s .args .p) (below-of s) (s .pre .0 .0) (standing s) _ _ (c .before .before .before .single .ensures) (f .free-others .result) (f .free-others .ensures .0 .long) (marks-of f) (f .free-others .ensures .1 .0) (c .if1 .taken)
 
-list-members-requires : tie.Need-list-members-requires
-list-members-requires c κs = (c .before .before .before .before .before .before .pre .0 .0, length-replicate {A = ℕ} 128 0)
-
 -- the free bones are of the pile
 inside-of : (f : tie.After-free-others) (x : ℕ) → T (marked (f .free-others .last .1 .1 .1 .0) x) → T (pile-of (f .before .before .before .before) x)
 inside-of f x t = let s = f .before .before .before .before in beside-in (pile-of s) (s .args .p) x (subst T (marks-of f x) t)
 
-first-light-requires : tie.Need-first-light-requires
-first-light-requires c κs = (c .before .before .before .list-members .ensures .rising, length-replicate {A = ℕ} 128 0)
+lone-light-requires : tie.Need-lone-light-requires
+lone-light-requires c κs =
+    let s = c .before .before .before .before .before .before .before in
+    ((s .pre .0 .0, length-replicate {A = ℕ} 128 0), inside-of (c .before .before .before))
 
 mark-only-requires : tie.Need-mark-only-requires
 mark-only-requires c κs = search needs
 
-mul-t26 : tie.Need-mul-t26
-mul-t26 c = search needs
+mul-wide : tie.Need-mul-wide
+mul-wide c = search needs
 
-array-read-t29 : tie.Need-array-read-t29
-array-read-t29 c = search needs
+array-read-wide : tie.Need-array-read-wide
+array-read-wide c = search needs
+
+wide-requires : tie.Need-wide-requires
+wide-requires c κs = tt
 
 returns-2 : tie.Need-returns-2
 returns-2 c =
-    let s = c .before .before .before .before .before .before .before .before .before .before .before .before .before .before in
-    let f = c .before .before .before .before .before .before .before .before .before .before in
-    let lone = c .before .before .before .first-light in
-    let told = lone .ensures (s .args .n) (pile-of s) (c .before .before .before .before .before .before .before .list-members .ensures) (inside-of f) in
-    let small = c .before .before .if2 .taken in
+    let s = c .before .before .before .before .before .before .before .before .before .before .before .before in
+    let f = c .before .before .before .before .before .before .before .before in
+    let lone = c .before .before .before .before .lone-light in
+    let told = lone .ensures in
+    let noted = c .wide .ensures .0 in
+    let small = c .before .before .before .if2 .taken in
     let apart : T (beside (pile-of s) (s .args .p) (lone .result)) = subst T (marks-of f (lone .result)) (told .one small) in
-    known-light (s .args .n) (held (s .args .table .now)) (s .args .k) (pile-of s) (s .args .p) (below-of s) (s .pre .0 .0) (standing s) _ _ (c .before .before .before .before .before .before .before .before .before .before .before .before .single .ensures)
-    (light-lone (s .args .n) (held (s .args .table .now)) (held-symmetric (s .args .table .now)) (s .args .k) (pile-of s) (s .args .p) (below-of s) _ (lone .result) _ (c .mark-only .ensures .long)
-    (marks-as (s .args .n) (λ x. eqb x (lone .result)) _ _ (λ x e. subst (λ (y : ℕ). y < s .args .n) (sym (eqb→eq x (lone .result) e)) (beside-below (s .args .n) (pile-of s) (s .args .p) (below-of s) (lone .result) apart)) (rest-of f) (c .mark-only .ensures))
-    apart (told .noted small) (told .light small))
+    known-light (s .args .n) (held (s .args .table .now)) (s .args .k) (pile-of s) (s .args .p) (below-of s) (s .pre .0 .0) (standing s) _ _ (c .before .before .before .before .before .before .before .before .before .before .single .ensures)
+    (light-lone (s .args .n) (held (s .args .table .now)) (held-symmetric (s .args .table .now)) (s .args .k) (pile-of s) (s .args .p) (below-of s) _ (lone .result) _ (c .before .mark-only .ensures .long)
+    (marks-as (s .args .n) (λ x. eqb x (lone .result)) _ _ (λ x e. subst (λ (y : ℕ). y < s .args .n) (sym (eqb→eq x (lone .result) e)) (beside-below (s .args .n) (pile-of s) (s .args .p) (below-of s) (lone .result) apart)) (rest-of f) (c .before .mark-only .ensures))
+    apart (noted ∙ told .noted small) (omega (arith, noted, told .light small)))
+
+returns-3 : tie.Need-returns-3
+returns-3 c =
+    let s = c .before .before .before .before .before .before .before .before .before .before in
+    let f = c .before .before .before .before .before .before in
+    known-single (s .args .n) (held (s .args .table .now)) (s .args .k) (pile-of s) (s .args .p) (below-of s) (s .pre .0 .0) (standing s) _ _ (c .before .before .before .before .before .before .before .before .single .ensures) (f .free-others .ensures .0 .long) (rest-of f)
 
 degree-of-requires : tie.Need-degree-of-requires
 degree-of-requires c κs =
-    let s = c .before .before .before .before .before .before .before .before .before .before .before .before in
+    let s = c .before .before .before .before .before .before .before .before .before .before in
     (s .pre .0 .0, below-of s (s .args .p) (standing s))
 
 spread-requires : tie.Need-spread-requires
 spread-requires c κs =
-    let s = c .before .before .before .before .before .before .before .before .before .before .before .before .before .before .before in
-    let f = c .before .before .before .before .before .before .before .before .before .before .before in (
+    let s = c .before .before .before .before .before .before .before .before .before .before .before .before .before in
+    let f = c .before .before .before .before .before .before .before .before .before in (
       (s .pre .0 .0, s .pre .1 .1),
       (
         c .before .before .degree-of .ensures,
@@ -113,28 +121,28 @@ spread-requires c κs =
           (f .free-others .ensures .1 .0, f .free-others .ensures .1 .1, f .free-others .ensures .0 .long),
           (
             marks-of f,
-            λ x t. c .before .before .before .before .first-light .ensures (s .args .n) (pile-of s) (c .before .before .before .before .before .before .before .before .list-members .ensures) (inside-of f) .none (c .before .before .before .if2 .left) x (beside-below (s .args .n) (pile-of s) (s .args .p) (below-of s) x (subst T (marks-of f x) t)) t,
+            λ x t. c .before .before .before .before .before .lone-light .ensures .none (omega (arith, c .before .before .before .before .if2 .left, c .before .before .before .if3 .left)) x (beside-below (s .args .n) (pile-of s) (s .args .p) (below-of s) x (subst T (marks-of f x) t)) t,
           ),
         ),
       ),
     )
 
-returns-3 : tie.Need-returns-3
-returns-3 c =
-    let s = c .before .before .before .before .before .before .before .before .before .before .before .before .before .before .before .before .before in
-    known-light (s .args .n) (held (s .args .table .now)) (s .args .k) (pile-of s) (s .args .p) (below-of s) (s .pre .0 .0) (standing s) _ _ (c .before .before .before .before .before .before .before .before .before .before .before .before .before .before .before .single .ensures) (c .before .spread .ensures .found (c .if3 .taken))
+returns-4 : tie.Need-returns-4
+returns-4 c =
+    let s = c .before .before .before .before .before .before .before .before .before .before .before .before .before .before .before in
+    known-light (s .args .n) (held (s .args .table .now)) (s .args .k) (pile-of s) (s .args .p) (below-of s) (s .pre .0 .0) (standing s) _ _ (c .before .before .before .before .before .before .before .before .before .before .before .before .before .single .ensures) (c .before .spread .ensures .found (c .if4 .taken))
 
 name-joined-requires : tie.Need-name-joined-requires
 name-joined-requires c κs =
-    let s = c .before .before .before .before .before .before .before .before .before .before .before .before .before .before .before .before .before .before .before in
-    (s .pre .0 .0, below-of s (s .args .p) (standing s), c .before .before .before .before .before .before .before .before .before .before .before .before .before .before .before .before .before .single .ensures .long)
+    let s = c .before .before .before .before .before .before .before .before .before .before .before .before .before .before .before .before .before in
+    (s .pre .0 .0, below-of s (s .args .p) (standing s), c .before .before .before .before .before .before .before .before .before .before .before .before .before .before .before .single .ensures .long)
 
-returns-4 : tie.Need-returns-4
-returns-4 c =
-    let s = c .before .before .before .before .before .before .before .before .before .before .before .before .before .before .before .before .before .before .before .before .before in
+returns-5 : tie.Need-returns-5
+returns-5 c =
+    let s = c .before .before .before .before .before .before .before .before .before .before .before .before .before .before .before .before .before .before .before in
     let r = c .before .before .before .before .before .spread in
-    known-joined (s .args .n) (held (s .args .table .now)) (s .args .k) (pile-of s) (s .args .p) (below-of s) (s .pre .0 .0) (standing s) _ _ (c .before .before .before .before .before .before .before .before .before .before .before .before .before .before .before .before .before .before .before .single .ensures)
-    (subst (λ (light : Bool). Reached (s .args .n) (held (s .args .table .now)) (s .args .k) (pile-of s) (s .args .p) (r .last .1 .1 .1 .1 .1 .1 .1 .1 .0) light (r .result .left) (r .result .weight)) (c .before .before .before .before .if3 .left) (r .ensures))
+    known-joined (s .args .n) (held (s .args .table .now)) (s .args .k) (pile-of s) (s .args .p) (below-of s) (s .pre .0 .0) (standing s) _ _ (c .before .before .before .before .before .before .before .before .before .before .before .before .before .before .before .before .before .single .ensures)
+    (subst (λ (light : Bool). Reached (s .args .n) (held (s .args .table .now)) (s .args .k) (pile-of s) (s .args .p) (r .last .1 .1 .1 .1 .1 .1 .1 .1 .0) light (r .result .left) (r .result .weight)) (c .before .before .before .before .if4 .left) (r .ensures))
     _ (c .before .name-joined .ensures)
 
 pub grow-pile-spec : {M : Type 1} → statement M
@@ -144,14 +152,15 @@ grow-pile-spec =
     single-requires
     free-others-requires
     returns
-    list-members-requires
-    first-light-requires
+    lone-light-requires
     mark-only-requires
-    mul-t26
-    array-read-t29
+    mul-wide
+    array-read-wide
+    wide-requires
     returns-2
+    returns-3
     degree-of-requires
     spread-requires
-    returns-3
+    returns-4
     name-joined-requires
-    returns-4)
+    returns-5)

@@ -33,18 +33,21 @@ returns : tie.Need-returns Inv-loop μ-loop
 unfolding marked
 returns c = record { one = λ h. eq→eqb _ 1 (c .before .before .if1 .taken); tie = λ h. inl (c .if2 .taken) }
 
+mul-wide : tie.Need-mul-wide Inv-loop μ-loop
+mul-wide c = omega arith
+
+element-copy-out-wide : tie.Need-element-copy-out-wide Inv-loop μ-loop
+element-copy-out-wide c = omega arith
+
+wide-requires : tie.Need-wide-requires Inv-loop μ-loop
+wide-requires c κs = tt
+
 mul-if3 : tie.Need-mul-if3 Inv-loop μ-loop
-mul-if3 c = omega arith
-
-element-copy-out-if3 : tie.Need-element-copy-out-if3 Inv-loop μ-loop
-element-copy-out-if3 c = omega arith
-
-mul-if3-2 : tie.Need-mul-if3-2 Inv-loop μ-loop
-mul-if3-2 c = omega (arith, c .before .before .before .before .before .before .before .pre .1 (c .before .before .before .before .before .before .loop .v))
+mul-if3 c = omega (arith, c .before .before .before .before .before .before .before .before .pre .1 (c .before .before .before .before .before .before .before .loop .v))
 
 returns-2 : tie.Need-returns-2 Inv-loop μ-loop
 unfolding marked
-returns-2 c = record { one = λ h. eq→eqb _ 1 (c .before .before .before .before .if1 .taken); tie = λ h. inr (c .if3 .taken) }
+returns-2 c = record { one = λ h. eq→eqb _ 1 (c .before .before .before .before .before .if1 .taken); tie = λ h. inr (omega (arith, c .if3 .taken, c .before .wide .ensures .0)) }
 
 add-v : tie.Need-add-v Inv-loop μ-loop
 add-v c = omega arith
@@ -69,9 +72,10 @@ tied-spec =
     mul-tie
     element-copy-out-tie
     returns
+    mul-wide
+    element-copy-out-wide
+    wide-requires
     mul-if3
-    element-copy-out-if3
-    mul-if3-2
     returns-2
     add-v
     loop-less
