@@ -126,7 +126,8 @@ fn add_bytes(text: &[u8], at: usize, size: usize) -> usize
     let mut bad = 0;
     let mut i = 0;
     while i < size {
-        let byte = pair(text[at + 2 * i], text[at + 2 * i + 1]);
+        let from = at + 2 * i;
+        let byte = pair(text[from], text[from + 1]);
         bad += byte / 256;
         sum = add_byte(sum, (byte % 256) as u8);
         i += 1;
@@ -179,9 +180,8 @@ pub(crate) fn byte_at(text: &[u8], at: usize, i: usize) -> u8
     requires { ⌜ (at + 2 * i + 2 ≤ length (now text)) × T (digitsAt (drop at (now text)) i) ⌝ }
     ensures { λ r. ⌜ r ≡ byteAt (drop at (now (text .entry))) i ⌝ }
 {
-    let high = value(text[at + 2 * i]);
-    let low = value(text[at + 2 * i + 1]);
-    high * 16 + low
+    let from = at + 2 * i;
+    value(text[from]) * 16 + value(text[from + 1])
 }
 
 // The number that two bytes give, high byte first.
