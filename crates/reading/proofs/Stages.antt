@@ -5,7 +5,7 @@ use mathlib.Core.Path.{_≡_, refl, sym, _∙_, subst}
 use mathlib.Core.Bool.{Bool, true, false, not, _||_}
 use mathlib.Core.Logic.{⊎-elim}
 use lib.Dec.{T, eqb, eqb→eq}
-use borrow.Author.Tests.{eq-eqb, ne-eqb}
+use borrow.Author.Tests.{ne-eqb}
 use Rattle.reading.specs.declared.stage.Stage.{Stage}
 use Rattle.reading.specs.declared.stage.Stage.the-variants.{Opening, Linking, Cutting, Closed}
 use Rattle.meaning.proofs.Tests.{either, holds, fails}

@@ -1,8 +1,7 @@
 // Frames: how many payload bytes a kind has, digits and the byte that a pair of them means, and the sum of a frame's bytes.
 ghost use mathlib.Core.Path.{_≡_};
-ghost use mathlib.Core.Bool.{cond, _&&_};
 ghost use Prim.Native.Nat.{_+_, _*_, _%_, _≤_, _<_};
-ghost use lib.Dec.{T, ltb};
+ghost use lib.Dec.{T};
 ghost use lib.ListN.{getD, length, drop};
 ghost use Rattle.reading.specs.Frame.{payloads, valueOf};
 ghost use Rattle.reading.specs.Walk.{pairOf, kindOf, byteAt, digitsAt, feedAt, Well, Found, SizeFound, Summed};

@@ -7,11 +7,6 @@ use Rattle.reading.proofs.Frames.{pair-bound}
 use Rattle.reading.proofs.Walks.{Adding, adding-none, adding-more, sum-done, sum-broken}
 use Rattle.reading.proofs.frame.add_bytes.Statement.{statement}
 use Rattle.reading.proofs.frame.add_bytes.Tie as tie
-use Rattle.reading.proofs.frame.add_bytes.Reads as reads
-use Rattle.reading.proofs.frame.add_bytes.Lts as lts
-use Rattle.reading.proofs.frame.add_byte.Reads as add-byte-reads
-use Rattle.reading.proofs.frame.pair.Reads as pair-reads
-use Rattle.reading.proofs.frame.wide.Reads as wide-reads
 
 abbrev Inv-loop : tie.InvT-loop
 Inv-loop text at size sum₀ bad₀ i₀ sum bad i = (i ≤ size) × Adding (drop at text) size i sum bad

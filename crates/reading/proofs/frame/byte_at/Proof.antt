@@ -4,9 +4,6 @@ use native.Mathlib.Omega.{arith}
 use Rattle.reading.proofs.Lines.{values-at}
 use Rattle.reading.proofs.frame.byte_at.Statement.{statement}
 use Rattle.reading.proofs.frame.byte_at.Tie as tie
-use Rattle.reading.proofs.frame.byte_at.Reads as reads
-use Rattle.reading.proofs.frame.byte_at.Lts as lts
-use Rattle.reading.proofs.frame.value.Reads as value-reads
 
 mul-from : tie.Need-mul-from
 mul-from c = search needs

@@ -5,8 +5,6 @@ use lib.ListN.{length-drop}
 use Rattle.reading.proofs.Walks.{feed-none, feed-some}
 use Rattle.reading.proofs.frame.feed_at.Statement.{statement}
 use Rattle.reading.proofs.frame.feed_at.Tie as tie
-use Rattle.reading.proofs.frame.feed_at.Reads as reads
-use Rattle.reading.proofs.frame.feed_at.Lts as lts
 
 sub-if1 : tie.Need-sub-if1
 sub-if1 c = search needs
