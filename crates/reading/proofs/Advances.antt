@@ -1,27 +1,26 @@
 -- Laws of going on behind a line that passed: what is read in all stays the same.
 -- Assumes nothing.
-use Prim.Native.Nat.{ℕ, zero, suc, _+_, _*_, _-_, _/_, _≤_, _<_}
-use mathlib.Core.Path.{_≡_, refl, sym, _∙_, ap, ap₂, subst}
-use mathlib.Core.Bool.{Bool, true, false, true≢false}
-use mathlib.Core.List.{List, [], _∷_, _++_}
+use Prim.Native.Nat.{ℕ, suc, _+_, _*_, _/_, _≤_, _<_}
+use mathlib.Core.Path.{_≡_, refl, sym, _∙_, ap}
+use mathlib.Core.Bool.{true, false, true≢false}
+use mathlib.Core.List.{List, []}
 use native.Mathlib.Numerals.{add-one}
 use native.Mathlib.Omega.{arith}
 use lib.Dec.{T}
 use lib.ListN.{length, drop, length-append, drop-of-length-le}
 use Rattle.meaning.specs.declared.Judged.{Judged}
 use Rattle.meaning.specs.declared.Judged.the-variants.{Accepted, Refused}
-use Rattle.meaning.specs.Judge.{refuse, first}
+use Rattle.meaning.specs.Judge.{first}
 use Rattle.meaning.proofs.Tests.{holds, fails}
 use Rattle.heaps.specs.Record.{entrySize}
-use Rattle.reading.specs.declared.Reading.{Reading}
 use Rattle.reading.specs.declared.Reading.the-variants.{Got, Refused as Refused·reading}
 use Rattle.reading.specs.declared.frame.Frame.{Frame}
 use Rattle.reading.specs.declared.stage.Stage.{Stage}
 use Rattle.reading.specs.declared.stage.Stage.the-variants.{Opening, Linking, Cutting, Closed}
 use Rattle.reading.specs.declared.judge.Progress.{Progress}
 use Rattle.reading.specs.Lines.{Line, linesOf, after, open-at, lineRows}
-use Rattle.reading.specs.Reader.{read, linkIn, entryIn, linksIn, entriesIn, bonesIn, thresholdIn}
-use Rattle.reading.specs.Walk.{byteAt, digitsAt, sizeAt, Well, Found}
+use Rattle.reading.specs.Reader.{read, entryIn, linksIn, entriesIn, bonesIn, thresholdIn}
+use Rattle.reading.specs.Walk.{byteAt, digitsAt, sizeAt, Found}
 use Rattle.reading.specs.Judging.{Passes, LineJudged, Small, Ready, Advanced, headFrom, answer, readFrom}
 use Rattle.reading.proofs.Lines.{front}
 use Rattle.reading.proofs.Walks.{size-of, well-digits, well-room}

@@ -5,15 +5,20 @@ use mathlib.Core.Path.{_≡_, refl, sym, _∙_, subst}
 use mathlib.Core.Bool.{Bool, true, false, not, _||_}
 use mathlib.Core.Logic.{⊎-elim}
 use lib.Dec.{T, eqb, eqb→eq}
-use borrow.Author.Tests.{eq-eqb, ne-eqb}
+use borrow.Author.Tests.{ne-eqb}
 use Rattle.reading.specs.declared.stage.Stage.{Stage}
 use Rattle.reading.specs.declared.stage.Stage.the-variants.{Opening, Linking, Cutting, Closed}
 use Rattle.meaning.proofs.Tests.{either, holds, fails}
 use Rattle.reading.specs.Lines.{follows, after}
 
-pub linking-last : (stage : Stage) (kind : ℕ) → stage ≡ Linking → (kind ≡ 2 → ⊥) → (kind ≡ 3 → ⊥) → (kind ≡ 5 → ⊥) → eqb kind 6 ≡ follows stage kind
+-- what is no link may follow links where it may follow a cut
+pub no-link : (stage : Stage) (kind : ℕ) → stage ≡ Linking → (kind ≡ 2 → ⊥) → follows Cutting kind ≡ follows stage kind
 unfolding follows
-linking-last stage kind e a b d = rw (e, ne-eqb kind 2 a, ne-eqb kind 3 b, ne-eqb kind 5 d)
+no-link stage kind e a = rw (e, ne-eqb kind 2 a) (sort (eqb kind 3) (eqb kind 5 || eqb kind 6))
+  where
+    sort : (a b : Bool) → a || b ≡ (false || a) || b
+    sort true b = refl
+    sort false b = refl
 
 -- the test on a frame's kind, said of the kind at the front of a text
 pub follows-not : (stage : Stage) (k k′ : ℕ) (r : Bool) → r ≡ follows stage k → k ≡ k′ → r ≡ false → T (not (follows stage k′))

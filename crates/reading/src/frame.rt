@@ -1,8 +1,7 @@
 // Frames: how many payload bytes a kind has, digits and the byte that a pair of them means, and the sum of a frame's bytes.
 ghost use mathlib.Core.Path.{_≡_};
-ghost use mathlib.Core.Bool.{cond, _&&_};
 ghost use Prim.Native.Nat.{_+_, _*_, _%_, _≤_, _<_};
-ghost use lib.Dec.{T, ltb};
+ghost use lib.Dec.{T};
 ghost use lib.ListN.{getD, length, drop};
 ghost use Rattle.reading.specs.Frame.{payloads, valueOf};
 ghost use Rattle.reading.specs.Walk.{pairOf, kindOf, byteAt, digitsAt, feedAt, Well, Found, SizeFound, Summed};
@@ -126,7 +125,8 @@ fn add_bytes(text: &[u8], at: usize, size: usize) -> usize
     let mut bad = 0;
     let mut i = 0;
     while i < size {
-        let byte = pair(text[at + 2 * i], text[at + 2 * i + 1]);
+        let from = at + 2 * i;
+        let byte = pair(text[from], text[from + 1]);
         bad += byte / 256;
         sum = add_byte(sum, (byte % 256) as u8);
         i += 1;
@@ -179,9 +179,8 @@ pub(crate) fn byte_at(text: &[u8], at: usize, i: usize) -> u8
     requires { ⌜ (at + 2 * i + 2 ≤ length (now text)) × T (digitsAt (drop at (now text)) i) ⌝ }
     ensures { λ r. ⌜ r ≡ byteAt (drop at (now (text .entry))) i ⌝ }
 {
-    let high = value(text[at + 2 * i]);
-    let low = value(text[at + 2 * i + 1]);
-    high * 16 + low
+    let from = at + 2 * i;
+    value(text[from]) * 16 + value(text[from + 1])
 }
 
 // The number that two bytes give, high byte first.

@@ -1,5 +1,6 @@
 // How far an input text has come, and which frames may follow.
 ghost use mathlib.Core.Path.{_≡_};
+ghost use Rattle.reading.specs.declared.stage.Stage.the-variants.{Cutting};
 ghost use Rattle.reading.specs.Lines.{follows, open-at};
 
 // Nothing yet; after the head; after the first cut; after the close.
@@ -8,6 +9,19 @@ pub enum Stage {
     Linking,
     Cutting,
     Closed,
+}
+
+// Whether a frame of that kind may stand behind a cut: cuts and notes; close.
+fn may_follow_cut(kind: usize) -> bool
+    ensures { λ r. ⌜ r ≡ follows Cutting kind ⌝ }
+{
+    if kind == 3 {
+        return true;
+    }
+    if kind == 5 {
+        return true;
+    }
+    kind == 6
 }
 
 // Whether a frame of that kind may stand there: head; links and notes; cuts and notes; close; nothing after.
@@ -20,23 +34,9 @@ pub(crate) fn may_follow(stage: Stage, kind: usize) -> bool
             if kind == 2 {
                 return true;
             }
-            if kind == 3 {
-                return true;
-            }
-            if kind == 5 {
-                return true;
-            }
-            kind == 6
+            may_follow_cut(kind)
         }
-        Stage::Cutting => {
-            if kind == 3 {
-                return true;
-            }
-            if kind == 5 {
-                return true;
-            }
-            kind == 6
-        }
+        Stage::Cutting => may_follow_cut(kind),
         Stage::Closed => false,
     }
 }

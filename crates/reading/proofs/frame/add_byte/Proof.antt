@@ -3,9 +3,6 @@ use borrow.Author.Needs.{needs}
 use native.Mathlib.Omega.{arith}
 use Rattle.reading.proofs.frame.add_byte.Statement.{statement}
 use Rattle.reading.proofs.frame.add_byte.Tie as tie
-use Rattle.reading.proofs.frame.add_byte.Reads as reads
-use Rattle.reading.proofs.frame.add_byte.Lts as lts
-use Rattle.std.proofs.num.wrapping_add_u8.Reads as wrapping-add-u8-reads
 
 wrapping-add-u8-requires : tie.Need-wrapping-add-u8-requires
 wrapping-add-u8-requires c κs = search needs

@@ -1,3 +1,4 @@
+-- `frame::add_bytes` meets its contract. Assumes nothing.
 use Prim.Native.Nat.{_+_, _*_, _≤_, _-_}
 use native.Mathlib.Omega.{arith}
 use borrow.Author.Needs.{needs}
@@ -6,11 +7,6 @@ use Rattle.reading.proofs.Frames.{pair-bound}
 use Rattle.reading.proofs.Walks.{Adding, adding-none, adding-more, sum-done, sum-broken}
 use Rattle.reading.proofs.frame.add_bytes.Statement.{statement}
 use Rattle.reading.proofs.frame.add_bytes.Tie as tie
-use Rattle.reading.proofs.frame.add_bytes.Reads as reads
-use Rattle.reading.proofs.frame.add_bytes.Lts as lts
-use Rattle.reading.proofs.frame.add_byte.Reads as add-byte-reads
-use Rattle.reading.proofs.frame.pair.Reads as pair-reads
-use Rattle.reading.proofs.frame.wide.Reads as wide-reads
 
 abbrev Inv-loop : tie.InvT-loop
 Inv-loop text at size sum₀ bad₀ i₀ sum bad i = (i ≤ size) × Adding (drop at text) size i sum bad
@@ -18,66 +14,45 @@ Inv-loop text at size sum₀ bad₀ i₀ sum bad i = (i ≤ size) × Adding (dro
 abbrev μ-loop : tie.MeasureT-loop
 μ-loop text at size sum₀ bad₀ i₀ sum bad i = size - i
 
--- src/frame.rt:119:5
 loop-holds : tie.Need-loop-holds Inv-loop μ-loop
 loop-holds c = (omega arith, adding-none _ _)
 
--- src/frame.rt:120:35
-mul-pair : tie.Need-mul-pair Inv-loop μ-loop
-mul-pair c = search needs
+mul-from : tie.Need-mul-from Inv-loop μ-loop
+mul-from c = search needs
 
--- src/frame.rt:120:30
-add-pair : tie.Need-add-pair Inv-loop μ-loop
-add-pair c = search needs
+add-from : tie.Need-add-from Inv-loop μ-loop
+add-from c = search needs
 
--- src/frame.rt:120:25
 shared-slice-read-pair : tie.Need-shared-slice-read-pair Inv-loop μ-loop
 shared-slice-read-pair c = search needs
 
--- src/frame.rt:120:53
-mul-pair-2 : tie.Need-mul-pair-2 Inv-loop μ-loop
-mul-pair-2 c = search needs
+add-pair : tie.Need-add-pair Inv-loop μ-loop
+add-pair c = search needs
 
--- src/frame.rt:120:48
-add-pair-2 : tie.Need-add-pair-2 Inv-loop μ-loop
-add-pair-2 c = search needs
-
--- src/frame.rt:120:48
-add-pair-3 : tie.Need-add-pair-3 Inv-loop μ-loop
-add-pair-3 c = search needs
-
--- src/frame.rt:120:43
 shared-slice-read-pair-2 : tie.Need-shared-slice-read-pair-2 Inv-loop μ-loop
 shared-slice-read-pair-2 c = search needs
 
--- src/frame.rt:120:13
 pair-requires : tie.Need-pair-requires Inv-loop μ-loop
 pair-requires c κs = search needs
 
--- src/frame.rt:121:9
 add-bad : tie.Need-add-bad Inv-loop μ-loop
 add-bad c =
     let l = c .before .before .before .before in
     let a = l .before .before .args in
     omega (arith, l .loop .inv .1 .few, pair-bound (getD (a .text .now) (a .at + 2 * l .loop .i) 0) (getD (a .text .now) (a .at + 2 * l .loop .i + 1) 0))
 
--- src/frame.rt:122:46
 cast-add-byte : tie.Need-cast-add-byte Inv-loop μ-loop
 cast-add-byte c = search needs
 
--- src/frame.rt:122:9
 add-byte-requires : tie.Need-add-byte-requires Inv-loop μ-loop
 add-byte-requires c κs = search needs
 
--- src/frame.rt:123:9
 add-i : tie.Need-add-i Inv-loop μ-loop
 add-i c = search needs
 
--- src/frame.rt:119:5
 loop-less : tie.Need-loop-less Inv-loop μ-loop
 loop-less c = search needs
 
--- src/frame.rt:119:5
 loop-again : tie.Need-loop-again Inv-loop μ-loop
 loop-again c =
     let l = c .before .before .before .before .before in
@@ -87,17 +62,14 @@ loop-again c =
           (omega arith) (omega arith) (l .loop .inv .1) (c .before .pair .ensures) (c .add-byte .ensures),
     )
 
--- src/frame.rt:125:19
 wide-requires : tie.Need-wide-requires Inv-loop μ-loop
 wide-requires c κs = search needs
 
--- src/frame.rt:112:1
 returns : tie.Need-returns Inv-loop μ-loop
 returns c =
     let l = c .before .before .before in
     sum-done _ _ (l .loop .i) (l .loop .sum) (l .loop .bad) _ (omega arith) (l .loop .inv .1) (c .before .if1 .taken) (c .wide .ensures)
 
--- src/frame.rt:112:1
 returns-2 : tie.Need-returns-2 Inv-loop μ-loop
 returns-2 c =
     let l = c .before .before in
@@ -110,12 +82,10 @@ add-bytes-spec =
     Inv-loop
     μ-loop
     loop-holds
-    mul-pair
-    add-pair
+    mul-from
+    add-from
     shared-slice-read-pair
-    mul-pair-2
-    add-pair-2
-    add-pair-3
+    add-pair
     shared-slice-read-pair-2
     pair-requires
     add-bad

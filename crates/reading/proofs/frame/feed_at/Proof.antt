@@ -1,12 +1,10 @@
 -- `frame::feed_at` meets its contract. Assumes nothing.
 use borrow.Author.Needs.{needs}
 use native.Mathlib.Omega.{arith}
-use lib.ListN.{length-drop}
+use lib.ListN.{drop, length-drop}
 use Rattle.reading.proofs.Walks.{feed-none, feed-some}
 use Rattle.reading.proofs.frame.feed_at.Statement.{statement}
 use Rattle.reading.proofs.frame.feed_at.Tie as tie
-use Rattle.reading.proofs.frame.feed_at.Reads as reads
-use Rattle.reading.proofs.frame.feed_at.Lts as lts
 
 sub-if1 : tie.Need-sub-if1
 sub-if1 c = search needs
@@ -17,7 +15,7 @@ mul-if1 c = search needs
 returns : tie.Need-returns
 returns c =
     let a = c .before .args in
-    feed-none _ (a .size) (omega (arith, length-drop (a .at) (a .text .now)))
+    feed-none (drop (a .at) (a .text .now)) (a .size) (omega (arith, length-drop (a .at) (a .text .now)))
 
 mul-result : tie.Need-mul-result
 mul-result c = search needs

@@ -7,11 +7,6 @@ use Rattle.meaning.proofs.Tests.{holds}
 use Rattle.reading.proofs.Walks.{no-size, size-least, payload-most, kind-well, size-found, no-feed}
 use Rattle.reading.proofs.frame.size_at.Statement.{statement}
 use Rattle.reading.proofs.frame.size_at.Tie as tie
-use Rattle.reading.proofs.frame.size_at.Reads as reads
-use Rattle.reading.proofs.frame.size_at.Lts as lts
-use Rattle.reading.proofs.frame.feed_at.Reads as feed-at-reads
-use Rattle.reading.proofs.frame.kind_of.Reads as kind-of-reads
-use Rattle.reading.proofs.frame.payload.Reads as payload-reads
 
 sub-if1 : tie.Need-sub-if1
 sub-if1 c = search needs

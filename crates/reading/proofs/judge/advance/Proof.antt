@@ -5,11 +5,6 @@ use native.Mathlib.Omega.{arith}
 use Rattle.reading.proofs.Advances.{go-head, go-link, go-cut, go-note, go-close, ready-room, head-digits, head-room}
 use Rattle.reading.proofs.judge.advance.Statement.{statement}
 use Rattle.reading.proofs.judge.advance.Tie as tie
-use Rattle.reading.proofs.judge.advance.Reads as reads
-use Rattle.reading.proofs.judge.advance.Lts as lts
-use Rattle.reading.proofs.frame.byte_at.Reads as byte-at-reads
-use Rattle.reading.proofs.frame.number_at.Reads as number-at-reads
-use Rattle.reading.proofs.judge.move_to.Reads as move-to-reads
 
 mul-next : tie.Need-mul-next
 mul-next c =
