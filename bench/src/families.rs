@@ -31,6 +31,7 @@ pub const FAMILIES: &[Family] = &[
     family("path, k 2", |n, rng| path(n, 2, rng)),
     family("star, k 2", |n, rng| star(n, rng)),
     family("cubic, k 3", |n, rng| cubic(n, 3, rng)),
+    family("eight pairings, k 5", |n, rng| pairings(n, 8, 5, rng)),
     family("ring of 1 2, k 4", |n, rng| ring(n, &[1, 2], 4, rng)),
     family("ring of 1 2 3, k 6", |n, rng| ring(n, &[1, 2, 3], 6, rng)),
     family("torus, k 4", torus),
@@ -161,6 +162,17 @@ fn add_cubic(list: &mut List, from: usize, to: usize, rng: &mut Rng) {
     for two in mates.chunks_exact(2) {
         list.link(from + two[0], from + two[1], 1);
     }
+}
+
+/// So many times all bones paired at random: at 128 bones more pairs than a sparse pile has, and fewer than a dense one.
+fn pairings(n: usize, rounds: usize, k: usize, rng: &mut Rng) -> List {
+    let mut list = List::new(n, k);
+    for _ in 0..rounds {
+        for pair in rng.permutation(n).chunks_exact(2) {
+            list.link(pair[0] as usize, pair[1] as usize, 1);
+        }
+    }
+    list
 }
 
 fn cubic(n: usize, k: usize, rng: &mut Rng) -> List {
