@@ -34,6 +34,33 @@ struct Front {
     met: usize,
 }
 
+// Bone c is reached over an arc: it is met where it is not free, else it is queued.
+fn reached(
+    free: &[u8; 128],
+    arc: usize,
+    c: usize,
+    path: &mut [u16; 128],
+    queue: &mut [u8; 128],
+    front: Front,
+) -> Front
+    requires { ⌜ (arc < 896) × (c < 128) × (front .tail ≤ 128) ⌝ }
+    ensures { λ r. ⌜ r .tail ≤ 128 ⌝ }
+{
+    let tail = front.tail;
+    path[c] = arc as u16 + 1;
+    if free[c] != 1 {
+        return Front { tail, met: c };
+    }
+    if tail < 128 {
+        queue[tail] = c as u8;
+        return Front {
+            tail: tail + 1,
+            met: 128,
+        };
+    }
+    front
+}
+
 // An arc is tried: where it has room left and goes to a bone not reached yet, that bone is reached over it.
 fn try_arc(
     ways: &[u32; 448],
@@ -50,21 +77,10 @@ fn try_arc(
     let q = arc / 2;
     let way = ways[q];
     let c = far_end(way, arc);
-    let tail = front.tail;
     if c < 128 {
         if path[c] == 0 {
             if 0 < arc_left(way, arc, res[q]) {
-                path[c] = arc as u16 + 1;
-                if free[c] != 1 {
-                    return Front { tail, met: c };
-                }
-                if tail < 128 {
-                    queue[tail] = c as u8;
-                    return Front {
-                        tail: tail + 1,
-                        met: 128,
-                    };
-                }
+                return reached(free, arc, c, path, queue, front);
             }
         }
     }

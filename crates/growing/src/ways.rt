@@ -133,15 +133,8 @@ fn list_bone(
     m
 }
 
-// No bone has an arc yet. No arc is numbered 896 or more.
-fn no_arcs(first: &mut [u16; 128]) {
-    for b in 0..128 {
-        first[b] = 896;
-    }
-}
-
 // The pairs of the pile named p, of which there are as many as it gives; where it gives over 448, there are too many, or k is over 65,535,
-// and nothing is known.
+// and nothing is known. At first no bone has an arc: none is numbered 896 or more.
 fn list_ways(
     table: &[u32; 16384],
     names: &[u8; 128],
@@ -159,7 +152,7 @@ fn list_ways(
         return 449;
     }
     let most = k as u32;
-    no_arcs(first);
+    *first = [896; 128];
     let mut m = 0;
     for i in 0..n {
         m = list_bone(table, names, n, most, p, i, ways, next, first, m);
