@@ -62,7 +62,7 @@ returns-2 c =
     let l = c .before .before .loop in
     record {
       long = refl;
-      heavy = λ e. sent-heavy (waysOf (a .ways .now) (a .m)) (leftOf (l .res)) (a .t) (unmarked (a .free .now)) (l .sent) (a .k) (l .inv .1) (c .before .loop-test .left);
+      heavy = λ e. sent-heavy (waysOf (a .ways .now) (a .m)) (leftOf (l .res)) (a .t) (unmarked (a .free .now)) (l .sent) (a .k) (l .inv .1) (omega arith);
       low = λ e. absurd (omega arith);
     }
 
