@@ -87,14 +87,14 @@ fn try_arc(
     front
 }
 
-// The arc that is tried after an arc of bone b, 896 where there is none. Arcs to greater bones come first, and each has the next noted.
+// The arc that is tried after an arc of bone b, 896 where there is none. Arcs to greater bones come first, and `arcs` has the next of each.
 // Arcs to lesser bones are of pairs listed one after the other, so the next is of the pair before, if that is b's too.
-fn after(ways: &[u32; 448], next: &[u16; 448], arc: usize, b: usize) -> usize
+fn after(ways: &[u32; 448], arcs: &[u16; 576], arc: usize, b: usize) -> usize
     requires { ⌜ arc < 896 ⌝ }
 {
     let q = arc / 2;
     if arc % 2 == 1 {
-        return arc_of(next[q]);
+        return arc_of(arcs[q]);
     }
     if 0 < q {
         if end_x(ways[q - 1]) == b {
@@ -104,11 +104,11 @@ fn after(ways: &[u32; 448], next: &[u16; 448], arc: usize, b: usize) -> usize
     896
 }
 
-// The arcs of bone b are tried in turn, each below the one before, until one goes to a bone that is not free.
+// The arcs of bone b, of which `arcs` has the first at 448 + b, are tried in turn, each below the one before, until one goes to a bone that
+// is not free.
 fn spread(
     ways: &[u32; 448],
-    next: &[u16; 448],
-    first: &[u16; 128],
+    arcs: &[u16; 576],
     res: &[u32; 448],
     free: &[u8; 128],
     b: usize,
@@ -120,7 +120,7 @@ fn spread(
     ensures { λ r. ⌜ r .tail ≤ 128 ⌝ }
 {
     let mut got = front;
-    let mut arc = arc_of(first[b]);
+    let mut arc = arc_of(arcs[448 + b]);
     let mut before = 896;
     while arc < before {
         got = try_arc(ways, res, free, arc, path, queue, got);
@@ -128,7 +128,7 @@ fn spread(
             return got;
         }
         before = arc;
-        arc = after(ways, next, arc, b);
+        arc = after(ways, arcs, arc, b);
     }
     got
 }
@@ -137,8 +137,7 @@ fn spread(
 // the arc that it was reached over, for t the greatest number, and for any other bone nought, as it had at first.
 pub(crate) fn reach(
     ways: &[u32; 448],
-    next: &[u16; 448],
-    first: &[u16; 128],
+    arcs: &[u16; 576],
     res: &[u32; 448],
     free: &[u8; 128],
     t: usize,
@@ -156,7 +155,7 @@ pub(crate) fn reach(
         if 128 <= b {
             return 128;
         }
-        front = spread(ways, next, first, res, free, b, path, queue, front);
+        front = spread(ways, arcs, res, free, b, path, queue, front);
         if front.met < 128 {
             return front.met;
         }

@@ -150,8 +150,7 @@ fn spread(
     ensures { λ r. ⌜ Reached n (held (now (table .entry))) k (pile n (heapOf (now (names .entry))) p) p (now (free .exit)) (r .light) (r .left) (r .weight) ⌝ }
 {
     let mut ways = [0u32; 448];
-    let mut next = [0u16; 448];
-    let mut first = [0u16; 128];
+    let mut arcs = [0u16; 576];
     let mut ties = [0u64; 128];
     add_row(table, n, p, &mut ties);
     let mut out = own;
@@ -182,8 +181,7 @@ fn spread(
             degrees,
             &ties,
             &mut ways,
-            &mut next,
-            &mut first,
+            &mut arcs,
             pairs,
             free,
         );

@@ -11,11 +11,11 @@ use Rattle.flowing.proofs.flow.flow_within.Statement.{statement}
 use Rattle.flowing.proofs.flow.flow_within.Tie as tie
 
 abbrev Inv-loop : tie.InvT-loop
-Inv-loop ways next first m k free t seen₀ res₀ sent₀ seen res sent =
+Inv-loop ways arcs m k free t seen₀ res₀ sent₀ seen res sent =
     (length res ≡ 448) × Sent (waysOf ways m) (leftOf res) t (unmarked free) sent t 0
 
 abbrev μ-loop : tie.MeasureT-loop
-μ-loop ways next first m k free t seen₀ res₀ sent₀ seen res sent = k - sent
+μ-loop ways arcs m k free t seen₀ res₀ sent₀ seen res sent = k - sent
 
 start-requires : tie.Need-start-requires Inv-loop μ-loop
 start-requires c κs = search needs

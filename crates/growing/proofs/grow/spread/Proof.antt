@@ -24,14 +24,14 @@ use Rattle.growing.proofs.grow.spread.Statement.{statement}
 use Rattle.growing.proofs.grow.spread.Tie as tie
 
 abbrev Inv-loop : tie.InvT-loop
-Inv-loop table names n k p own others degrees free₀ ways₀ next₀ first₀ ties₀ out₀ left₀ pairs₀ free ways next first ties out left pairs =
+Inv-loop table names n k p own others degrees free₀ ways₀ arcs₀ ties₀ out₀ left₀ pairs₀ free ways arcs ties out left pairs =
     Spread n (held table) k (pile n (heapOf names) p) p free degrees ties
     × Measured n (held table) (pile n (heapOf names) p) free ties out left
     × Ready n (held table) k (pile n (heapOf names) p) ways pairs
     × (left ≤ others)
 
 abbrev μ-loop : tie.MeasureT-loop
-μ-loop table names n k p own others degrees free₀ ways₀ next₀ first₀ ties₀ out₀ left₀ pairs₀ free ways next first ties out left pairs = left
+μ-loop table names n k p own others degrees free₀ ways₀ arcs₀ ties₀ out₀ left₀ pairs₀ free ways arcs ties out left pairs = left
 
 -- the pile, its bones, and that p is one of them
 abbrev pile-of : tie.Start Inv-loop μ-loop → Bones
@@ -83,29 +83,29 @@ returns-2 c =
 
 choose-requires : tie.Need-choose-requires Inv-loop μ-loop
 choose-requires c κs =
-    let s = c .before .before .before .before .before .before .before .before .before .before .before .before .before .before in
-    let l = c .before .before .before .before .before .before .before .before .before .before .before .loop in
+    let s = c .before .before .before .before .before .before .before .before .before .before .before .before .before in
+    let l = c .before .before .before .before .before .before .before .before .before .before .loop in
     (s .pre .0 .0, (l .inv .0, l .inv .2))
 
 returns-3 : tie.Need-returns-3 Inv-loop μ-loop
 returns-3 c =
-    let s = c .before .before .before .before .before .before .before .before .before .before .before .before .before .before .before .before in
-    let l = c .before .before .before .before .before .before .before .before .before .before .before .before .before .loop in
+    let s = c .before .before .before .before .before .before .before .before .before .before .before .before .before .before .before in
+    let l = c .before .before .before .before .before .before .before .before .before .before .before .before .loop in
     let v = c .before .choose in
     reached-light (s .args .n) (held (s .args .table .now)) (held-symmetric (s .args .table .now)) (s .args .k) (pile-of s) (s .args .p) (below-of s) (v .ensures .0 .found (c .if3 .taken))
 
 returns-4 : tie.Need-returns-4 Inv-loop μ-loop
 returns-4 c =
-    let s = c .before .before .before .before .before .before .before .before .before .before .before .before .before .before .before .before .before in
-    let l = c .before .before .before .before .before .before .before .before .before .before .before .before .before .before .loop in
+    let s = c .before .before .before .before .before .before .before .before .before .before .before .before .before .before .before .before in
+    let l = c .before .before .before .before .before .before .before .before .before .before .before .before .before .loop in
     let v = c .before .before .choose in
     subst (λ (m : List ℕ). Reached (s .args .n) (held (s .args .table .now)) (s .args .k) (pile-of s) (s .args .p) m false (l .left) 0) (sym (v .ensures .0 .same (c .before .if3 .left)))
     (reached-dark (s .args .n) (held (s .args .table .now)) (held-symmetric (s .args .table .now)) (s .args .k) (pile-of s) (s .args .p) (below-of s) (l .inv .0) (l .inv .1))
 
 out-with-requires : tie.Need-out-with-requires Inv-loop μ-loop
 out-with-requires c κs =
-    let s = c .before .before .before .before .before .before .before .before .before .before .before .before .before .before .before .before .before .before in
-    let l = c .before .before .before .before .before .before .before .before .before .before .before .before .before .before .before .loop in
+    let s = c .before .before .before .before .before .before .before .before .before .before .before .before .before .before .before .before .before in
+    let l = c .before .before .before .before .before .before .before .before .before .before .before .before .before .before .loop in
     let v = c .before .before .before .choose in
     let isfree = v .ensures .0 .one (c .before .before .if3 .left) (c .before .if4 .left) in (
       c .before .if4 .left,
@@ -117,22 +117,22 @@ element-write-free : tie.Need-element-write-free Inv-loop μ-loop
 element-write-free c = c .before .before .if4 .left
 
 sub-left : tie.Need-sub-left Inv-loop μ-loop
-sub-left c = omega (arith, c .before .before .before .before .before .before .before .before .before .before .before .before .before .before .before .loop-test .taken)
+sub-left c = omega (arith, c .before .before .before .before .before .before .before .before .before .before .before .before .before .before .loop-test .taken)
 
 add-row-requires-2 : tie.Need-add-row-requires-2 Inv-loop μ-loop
 add-row-requires-2 c κs =
-    let s = c .before .before .before .before .before .before .before .before .before .before .before .before .before .before .before .before .before .before .before .before in
-    let l = c .before .before .before .before .before .before .before .before .before .before .before .before .before .before .before .before .before .loop in
+    let s = c .before .before .before .before .before .before .before .before .before .before .before .before .before .before .before .before .before .before .before in
+    let l = c .before .before .before .before .before .before .before .before .before .before .before .before .before .before .before .before .loop in
     let v = c .before .before .before .before .before .choose in
     ((s .pre .0 .0, beside-below (s .args .n) (pile-of s) (s .args .p) (below-of s) (v .result .bone) (l .inv .0 .others (v .result .bone) (v .ensures .0 .one (c .before .before .before .before .if3 .left) (c .before .before .before .if4 .left)))), record { long = l .inv .0 .ties-long; room = λ x. omega (arith, l .inv .0 .most x) })
 
 loop-less : tie.Need-loop-less Inv-loop μ-loop
-loop-less c = omega (arith, c .before .before .before .before .before .before .before .before .before .before .before .before .before .before .before .before .before .loop-test .taken)
+loop-less c = omega (arith, c .before .before .before .before .before .before .before .before .before .before .before .before .before .before .before .before .loop-test .taken)
 
 loop-again : tie.Need-loop-again Inv-loop μ-loop
 loop-again c =
-    let s = c .before .before .before .before .before .before .before .before .before .before .before .before .before .before .before .before .before .before .before .before .before in
-    let l = c .before .before .before .before .before .before .before .before .before .before .before .before .before .before .before .before .before .before .loop in
+    let s = c .before .before .before .before .before .before .before .before .before .before .before .before .before .before .before .before .before .before .before .before in
+    let l = c .before .before .before .before .before .before .before .before .before .before .before .before .before .before .before .before .before .loop in
     let v = c .before .before .before .before .before .before .choose in
     let out = c .before .before .out-with in
     let n = s .args .n in

@@ -12,11 +12,11 @@ use Rattle.growing.proofs.ways.list_ways.Statement.{statement}
 use Rattle.growing.proofs.ways.list_ways.Tie as tie
 
 abbrev Inv-loop : tie.InvT-loop
-Inv-loop table names n k p ways₀ next₀ first₀ most m₀ i₀ ways next first m i =
+Inv-loop table names n k p ways₀ arcs₀ most m₀ i₀ ways arcs m i =
     (i ≤ n) × Listed (held table) k (pile n (heapOf names) p) ways m i 0
 
 abbrev μ-loop : tie.MeasureT-loop
-μ-loop table names n k p ways₀ next₀ first₀ most m₀ i₀ ways next first m i = n - i
+μ-loop table names n k p ways₀ arcs₀ most m₀ i₀ ways arcs m i = n - i
 
 returns : tie.Need-returns Inv-loop μ-loop
 returns c = ready-none (c .before .pre .1) (omega arith)
@@ -28,7 +28,7 @@ loop-holds : tie.Need-loop-holds Inv-loop μ-loop
 loop-holds c = (zero-le, listed-start _ _ _ _ (c .before .before .pre .1))
 
 list-bone-requires : tie.Need-list-bone-requires Inv-loop μ-loop
-list-bone-requires c κs = ((omega arith, omega arith, omega arith), c .before .before .before .before .loop .inv .1)
+list-bone-requires c κs = ((omega arith, omega arith, omega arith), c .before .before .before .loop .inv .1)
 
 add-i : tie.Need-add-i Inv-loop μ-loop
 add-i c = omega arith
