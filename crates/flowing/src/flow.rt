@@ -38,8 +38,7 @@ fn mark(path: &[u16; 128], free: &[u8; 128], seen: &mut [u8; 128])
 // marked. Until then `seen` is the look's queue.
 fn round(
     ways: &[u32; 448],
-    next: &[u16; 448],
-    first: &[u16; 128],
+    arcs: &[u16; 576],
     m: usize,
     free: &[u8; 128],
     t: usize,
@@ -53,7 +52,7 @@ fn round(
     ensures { λ r. ⌜ (r ≡ 0 → Clear (unmarked (now (free .entry))) (now (seen .exit))) ⌝ }
 {
     let mut path = [0u16; 128];
-    let met = reach(ways, next, first, res, free, t, &mut path, seen);
+    let met = reach(ways, arcs, res, free, t, &mut path, seen);
     let d = send(ways, m, free, &path, t, met, want, res);
     if 0 < d {
         return d;
@@ -135,8 +134,7 @@ fn settle(
 // t still reaches weigh less than k (verdict 2, and `seen` marks them). Verdict 0: nothing is known.
 fn flow_within(
     ways: &[u32; 448],
-    next: &[u16; 448],
-    first: &[u16; 128],
+    arcs: &[u16; 576],
     m: usize,
     k: u64,
     free: &[u8; 128],
@@ -151,7 +149,7 @@ fn flow_within(
     let mut sent: u64 = 0;
     while sent < k {
         let want = k - sent;
-        let d = round(ways, next, first, m, free, t, want as u32, &mut res, seen);
+        let d = round(ways, arcs, m, free, t, want as u32, &mut res, seen);
         if d == 0 {
             return settle(ways, m, k, free, t, seen);
         }
@@ -168,8 +166,7 @@ fn flow_within(
 // 65,535.
 pub fn flow(
     ways: &[u32; 448],
-    next: &[u16; 448],
-    first: &[u16; 128],
+    arcs: &[u16; 576],
     m: usize,
     k: u64,
     free: &[u8; 128],
@@ -181,7 +178,7 @@ pub fn flow(
     if m <= 448 {
         if t < 128 {
             if k < 65536 {
-                return flow_within(ways, next, first, m, k, free, t, seen);
+                return flow_within(ways, arcs, m, k, free, t, seen);
             }
         }
     }

@@ -34,6 +34,33 @@ struct Front {
     met: usize,
 }
 
+// Bone c is reached over an arc: it is met where it is not free, else it is queued.
+fn reached(
+    free: &[u8; 128],
+    arc: usize,
+    c: usize,
+    path: &mut [u16; 128],
+    queue: &mut [u8; 128],
+    front: Front,
+) -> Front
+    requires { ⌜ (arc < 896) × (c < 128) × (front .tail ≤ 128) ⌝ }
+    ensures { λ r. ⌜ r .tail ≤ 128 ⌝ }
+{
+    let tail = front.tail;
+    path[c] = arc as u16 + 1;
+    if free[c] != 1 {
+        return Front { tail, met: c };
+    }
+    if tail < 128 {
+        queue[tail] = c as u8;
+        return Front {
+            tail: tail + 1,
+            met: 128,
+        };
+    }
+    front
+}
+
 // An arc is tried: where it has room left and goes to a bone not reached yet, that bone is reached over it.
 fn try_arc(
     ways: &[u32; 448],
@@ -50,35 +77,24 @@ fn try_arc(
     let q = arc / 2;
     let way = ways[q];
     let c = far_end(way, arc);
-    let tail = front.tail;
     if c < 128 {
         if path[c] == 0 {
             if 0 < arc_left(way, arc, res[q]) {
-                path[c] = arc as u16 + 1;
-                if free[c] != 1 {
-                    return Front { tail, met: c };
-                }
-                if tail < 128 {
-                    queue[tail] = c as u8;
-                    return Front {
-                        tail: tail + 1,
-                        met: 128,
-                    };
-                }
+                return reached(free, arc, c, path, queue, front);
             }
         }
     }
     front
 }
 
-// The arc that is tried after an arc of bone b, 896 where there is none. Arcs to greater bones come first, and each has the next noted.
+// The arc that is tried after an arc of bone b, 896 where there is none. Arcs to greater bones come first, and `arcs` has the next of each.
 // Arcs to lesser bones are of pairs listed one after the other, so the next is of the pair before, if that is b's too.
-fn after(ways: &[u32; 448], next: &[u16; 448], arc: usize, b: usize) -> usize
+fn after(ways: &[u32; 448], arcs: &[u16; 576], arc: usize, b: usize) -> usize
     requires { ⌜ arc < 896 ⌝ }
 {
     let q = arc / 2;
     if arc % 2 == 1 {
-        return arc_of(next[q]);
+        return arc_of(arcs[q]);
     }
     if 0 < q {
         if end_x(ways[q - 1]) == b {
@@ -88,11 +104,11 @@ fn after(ways: &[u32; 448], next: &[u16; 448], arc: usize, b: usize) -> usize
     896
 }
 
-// The arcs of bone b are tried in turn, each below the one before, until one goes to a bone that is not free.
+// The arcs of bone b, of which `arcs` has the first at 448 + b, are tried in turn, each below the one before, until one goes to a bone that
+// is not free.
 fn spread(
     ways: &[u32; 448],
-    next: &[u16; 448],
-    first: &[u16; 128],
+    arcs: &[u16; 576],
     res: &[u32; 448],
     free: &[u8; 128],
     b: usize,
@@ -104,7 +120,7 @@ fn spread(
     ensures { λ r. ⌜ r .tail ≤ 128 ⌝ }
 {
     let mut got = front;
-    let mut arc = arc_of(first[b]);
+    let mut arc = arc_of(arcs[448 + b]);
     let mut before = 896;
     while arc < before {
         got = try_arc(ways, res, free, arc, path, queue, got);
@@ -112,7 +128,7 @@ fn spread(
             return got;
         }
         before = arc;
-        arc = after(ways, next, arc, b);
+        arc = after(ways, arcs, arc, b);
     }
     got
 }
@@ -121,8 +137,7 @@ fn spread(
 // the arc that it was reached over, for t the greatest number, and for any other bone nought, as it had at first.
 pub(crate) fn reach(
     ways: &[u32; 448],
-    next: &[u16; 448],
-    first: &[u16; 128],
+    arcs: &[u16; 576],
     res: &[u32; 448],
     free: &[u8; 128],
     t: usize,
@@ -140,7 +155,7 @@ pub(crate) fn reach(
         if 128 <= b {
             return 128;
         }
-        front = spread(ways, next, first, res, free, b, path, queue, front);
+        front = spread(ways, arcs, res, free, b, path, queue, front);
         if front.met < 128 {
             return front.met;
         }

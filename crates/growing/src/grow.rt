@@ -10,9 +10,9 @@ use pairs::numbers::bone;
 use pairs::numbers::wide;
 ghost use mathlib.Core.Path.{_≡_};
 ghost use mathlib.Core.Bool.{true, false, cond, not};
-ghost use Prim.Native.Nat.{ℕ, _<_, _≤_, _^_};
+ghost use Prim.Native.Nat.{ℕ, _+_, _*_, _-_, _<_, _≤_, _^_};
 ghost use lib.Dec.{T, eqb};
-ghost use lib.ListN.{length, replicate};
+ghost use lib.ListN.{length, getD, replicate};
 ghost use Rattle.meaning.specs.Count.{Bones, count};
 ghost use Rattle.meaning.specs.Heap.{pile, stands};
 ghost use Rattle.pairs.specs.Table.{held};
@@ -121,6 +121,14 @@ pub(crate) struct Growth {
     pub(crate) weight: u64,
 }
 
+// What the grown set weighs with bone v, where it weighs `out` without: v's degree more, less its tie on either side.
+fn out_with(degrees: &[u32; 128], ties: &[u64; 128], out: u64, v: usize) -> u64
+    requires { ⌜ (v < 128) × (out + getD (now degrees) v 0 < 2 ^ 64) × (2 * getD (now ties) v 0 ≤ out + getD (now degrees) v 0) ⌝ }
+    ensures { λ r. ⌜ r ≡ out + getD (now (degrees .entry)) v 0 - 2 * getD (now (ties .entry)) v 0 ⌝ }
+{
+    out + wide(degrees[v]) - 2 * ties[v]
+}
+
 // Bones join p as long as one is known that can, and the set so grown weighs k or more. `left` bones are free, and p's degree is `own`. The
 // pile's pairs are listed at the first probe: until then `pairs` is 450.
 fn spread(
@@ -142,8 +150,7 @@ fn spread(
     ensures { λ r. ⌜ Reached n (held (now (table .entry))) k (pile n (heapOf (now (names .entry))) p) p (now (free .exit)) (r .light) (r .left) (r .weight) ⌝ }
 {
     let mut ways = [0u32; 448];
-    let mut next = [0u16; 448];
-    let mut first = [0u16; 128];
+    let mut arcs = [0u16; 576];
     let mut ties = [0u64; 128];
     add_row(table, n, p, &mut ties);
     let mut out = own;
@@ -174,8 +181,7 @@ fn spread(
             degrees,
             &ties,
             &mut ways,
-            &mut next,
-            &mut first,
+            &mut arcs,
             pairs,
             free,
         );
@@ -196,7 +202,7 @@ fn spread(
                 weight: 0,
             };
         }
-        out = out + wide(degrees[v]) - 2 * ties[v];
+        out = out_with(degrees, &ties, out, v);
         free[v] = 0;
         left = left - 1;
         add_row(table, n, v, &mut ties);

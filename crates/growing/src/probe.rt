@@ -23,8 +23,7 @@ fn probe_listed(
     p: usize,
     t: usize,
     ways: &[u32; 448],
-    next: &[u16; 448],
-    first: &[u16; 128],
+    arcs: &[u16; 576],
     m: usize,
     free: &mut [u8; 128],
 ) -> Shown
@@ -40,7 +39,7 @@ fn probe_listed(
         };
     }
     let mut seen = [0u8; 128];
-    let got = flow(ways, next, first, m, k, free, t, &mut seen);
+    let got = flow(ways, arcs, m, k, free, t, &mut seen);
     let verdict = got.verdict;
     if verdict == 2 {
         *free = seen;
@@ -65,8 +64,7 @@ pub(crate) fn probe(
     p: usize,
     t: usize,
     ways: &mut [u32; 448],
-    next: &mut [u16; 448],
-    first: &mut [u16; 128],
+    arcs: &mut [u16; 576],
     m: usize,
     free: &mut [u8; 128],
 ) -> Finding
@@ -76,8 +74,8 @@ pub(crate) fn probe(
     ensures { λ r. ⌜ Probed n (held (now (table .entry))) k (pile n (heapOf (now (names .entry))) p) p t (now (free .entry)) (now (free .exit)) (r .verdict) (r .weight) ⌝ }
     ensures { λ r. ⌜ Ready n (held (now (table .entry))) k (pile n (heapOf (now (names .entry))) p) (now (ways .exit)) (r .pairs) ⌝ }
 {
-    let pairs = list_once(table, names, n, k, p, ways, next, first, m);
-    let got = probe_listed(table, names, n, k, p, t, ways, next, first, pairs, free);
+    let pairs = list_once(table, names, n, k, p, ways, arcs, m);
+    let got = probe_listed(table, names, n, k, p, t, ways, arcs, pairs, free);
     Finding {
         verdict: got.verdict,
         weight: got.weight,

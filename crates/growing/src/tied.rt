@@ -154,8 +154,7 @@ pub(crate) fn choose(
     degrees: &[u32; 128],
     ties: &[u64; 128],
     ways: &mut [u32; 448],
-    next: &mut [u16; 448],
-    first: &mut [u16; 128],
+    arcs: &mut [u16; 576],
     m: usize,
     free: &mut [u8; 128],
 ) -> Choice
@@ -177,7 +176,7 @@ pub(crate) fn choose(
     if k <= two {
         return joining(t, m);
     }
-    let got = probe(table, names, n, k, p, t, ways, next, first, m, free);
+    let got = probe(table, names, n, k, p, t, ways, arcs, m, free);
     let verdict = got.verdict;
     let pairs = got.pairs;
     if verdict == 1 {

@@ -1,6 +1,7 @@
 // The pairs of a pile that have a tally, each listed once with its ends and its room: the tally, k at most. From every bone lead the arcs of
 // its pairs: arc 2 q goes from end x of pair q to end y, arc 2 q + 1 back. The arcs are for finding a path, and nothing is promised of them.
-// End x is the greater bone, and its pairs with lesser ones are listed together: only for the arcs back is it noted which comes next.
+// End x is the greater bone, and its pairs with lesser ones are listed together: `arcs` has for each bone b, at 448 + b, the first of its
+// arcs, and only for the arc back of each pair q, at q, which of the bone's arcs comes next.
 use crate::row::pair;
 use pairs::numbers::bone;
 ghost use mathlib.Core.Path.{_≡_};
@@ -23,29 +24,21 @@ fn room_of(table: &[u32; 16384], k: u32, i: usize, j: usize) -> u32
 }
 
 // The two arcs of pair m are put before those that its ends have already. All that x has are of the pairs listed just before.
-fn put_arcs(next: &mut [u16; 448], first: &mut [u16; 128], m: usize, x: usize, y: usize)
+fn put_arcs(arcs: &mut [u16; 576], m: usize, x: usize, y: usize)
     requires { ⌜ (m < 448) × (x < 128) × (y < 128) ⌝ }
 {
     let arc = 2 * m;
-    first[x] = arc as u16;
-    next[m] = first[y];
-    first[y] = (arc + 1) as u16;
+    arcs[448 + x] = arc as u16;
+    arcs[m] = arcs[448 + y];
+    arcs[448 + y] = (arc + 1) as u16;
 }
 
 // Pair m is listed, and its two arcs.
-fn put_way(
-    ways: &mut [u32; 448],
-    next: &mut [u16; 448],
-    first: &mut [u16; 128],
-    m: usize,
-    x: usize,
-    y: usize,
-    room: u32,
-)
+fn put_way(ways: &mut [u32; 448], arcs: &mut [u16; 576], m: usize, x: usize, y: usize, room: u32)
     requires { ⌜ (m < 448) × (x < 128) × (y < 128) × (room < 65536) ⌝ }
     ensures { λ r. ⌜ now (ways .exit) ≡ set (now (ways .entry)) m (wayOf x y room) ⌝ }
 {
-    put_arcs(next, first, m, x, y);
+    put_arcs(arcs, m, x, y);
     ways[m] = x as u32 + 256 * (y as u32) + 65536 * room;
 }
 
@@ -60,8 +53,7 @@ fn list_pair(
     i: usize,
     j: usize,
     ways: &mut [u32; 448],
-    next: &mut [u16; 448],
-    first: &mut [u16; 128],
+    arcs: &mut [u16; 576],
     m: usize,
 ) -> usize
     requires { ⌜ (n ≤ 128) × (k < 65536) × (i < n) × (j < i) ⌝ }
@@ -73,7 +65,7 @@ fn list_pair(
     if 0 < r {
         if bone(names[j]) == p {
             if m < 448 {
-                put_way(ways, next, first, m, i, j, r);
+                put_way(ways, arcs, m, i, j, r);
                 return m + 1;
             }
             return 449;
@@ -91,8 +83,7 @@ fn list_row(
     p: usize,
     i: usize,
     ways: &mut [u32; 448],
-    next: &mut [u16; 448],
-    first: &mut [u16; 128],
+    arcs: &mut [u16; 576],
     m: usize,
 ) -> usize
     requires { ⌜ (n ≤ 128) × (k < 65536) × (i < n) ⌝ }
@@ -102,7 +93,7 @@ fn list_row(
 {
     let mut listed = m;
     for j in 0..i {
-        listed = list_pair(table, names, n, k, p, i, j, ways, next, first, listed);
+        listed = list_pair(table, names, n, k, p, i, j, ways, arcs, listed);
     }
     listed
 }
@@ -116,8 +107,7 @@ fn list_bone(
     p: usize,
     i: usize,
     ways: &mut [u32; 448],
-    next: &mut [u16; 448],
-    first: &mut [u16; 128],
+    arcs: &mut [u16; 576],
     m: usize,
 ) -> usize
     requires { ⌜ (n ≤ 128) × (k < 65536) × (i < n) ⌝ }
@@ -128,20 +118,13 @@ fn list_bone(
         return m;
     }
     if bone(names[i]) == p {
-        return list_row(table, names, n, k, p, i, ways, next, first, m);
+        return list_row(table, names, n, k, p, i, ways, arcs, m);
     }
     m
 }
 
-// No bone has an arc yet. No arc is numbered 896 or more.
-fn no_arcs(first: &mut [u16; 128]) {
-    for b in 0..128 {
-        first[b] = 896;
-    }
-}
-
 // The pairs of the pile named p, of which there are as many as it gives; where it gives over 448, there are too many, or k is over 65,535,
-// and nothing is known.
+// and nothing is known. At first no bone has an arc: none is numbered 896 or more.
 fn list_ways(
     table: &[u32; 16384],
     names: &[u8; 128],
@@ -149,8 +132,7 @@ fn list_ways(
     k: u64,
     p: usize,
     ways: &mut [u32; 448],
-    next: &mut [u16; 448],
-    first: &mut [u16; 128],
+    arcs: &mut [u16; 576],
 ) -> usize
     requires { ⌜ (n ≤ 128) × (length (now ways) ≡ 448) ⌝ }
     ensures { λ r. ⌜ Ready n (held (now (table .entry))) k (pile n (heapOf (now (names .entry))) p) (now (ways .exit)) r ⌝ }
@@ -159,10 +141,10 @@ fn list_ways(
         return 449;
     }
     let most = k as u32;
-    no_arcs(first);
+    *arcs = [896; 576];
     let mut m = 0;
     for i in 0..n {
-        m = list_bone(table, names, n, most, p, i, ways, next, first, m);
+        m = list_bone(table, names, n, most, p, i, ways, arcs, m);
     }
     m
 }
@@ -175,8 +157,7 @@ pub(crate) fn list_once(
     k: u64,
     p: usize,
     ways: &mut [u32; 448],
-    next: &mut [u16; 448],
-    first: &mut [u16; 128],
+    arcs: &mut [u16; 576],
     m: usize,
 ) -> usize
     requires { ⌜ n ≤ 128 ⌝ }
@@ -186,5 +167,5 @@ pub(crate) fn list_once(
     if m < 450 {
         return m;
     }
-    list_ways(table, names, n, k, p, ways, next, first)
+    list_ways(table, names, n, k, p, ways, arcs)
 }

@@ -11,11 +11,11 @@ use Rattle.flowing.proofs.flow.flow_within.Statement.{statement}
 use Rattle.flowing.proofs.flow.flow_within.Tie as tie
 
 abbrev Inv-loop : tie.InvT-loop
-Inv-loop ways next first m k free t seen₀ res₀ sent₀ seen res sent =
+Inv-loop ways arcs m k free t seen₀ res₀ sent₀ seen res sent =
     (length res ≡ 448) × Sent (waysOf ways m) (leftOf res) t (unmarked free) sent t 0
 
 abbrev μ-loop : tie.MeasureT-loop
-μ-loop ways next first m k free t seen₀ res₀ sent₀ seen res sent = k - sent
+μ-loop ways arcs m k free t seen₀ res₀ sent₀ seen res sent = k - sent
 
 start-requires : tie.Need-start-requires Inv-loop μ-loop
 start-requires c κs = search needs
@@ -62,7 +62,7 @@ returns-2 c =
     let l = c .before .before .loop in
     record {
       long = refl;
-      heavy = λ e. sent-heavy (waysOf (a .ways .now) (a .m)) (leftOf (l .res)) (a .t) (unmarked (a .free .now)) (l .sent) (a .k) (l .inv .1) (c .before .loop-test .left);
+      heavy = λ e. sent-heavy (waysOf (a .ways .now) (a .m)) (leftOf (l .res)) (a .t) (unmarked (a .free .now)) (l .sent) (a .k) (l .inv .1) (omega arith);
       low = λ e. absurd (omega arith);
     }
 

@@ -6,10 +6,10 @@ use Rattle.flowing.proofs.path.reach.Statement.{statement}
 use Rattle.flowing.proofs.path.reach.Tie as tie
 
 abbrev Inv-loop : tie.InvT-loop
-Inv-loop ways next first res inside t path₀ queue₀ front₀ head₀ path queue front head = front .tail ≤ 128
+Inv-loop ways arcs res inside t path₀ queue₀ front₀ head₀ path queue front head = front .tail ≤ 128
 
 abbrev μ-loop : tie.MeasureT-loop
-μ-loop ways next first res inside t path₀ queue₀ front₀ head₀ path queue front head = 128 - head
+μ-loop ways arcs res inside t path₀ queue₀ front₀ head₀ path queue front head = 128 - head
 
 mul-path : tie.Need-mul-path Inv-loop μ-loop
 mul-path c = search needs

@@ -6,10 +6,13 @@ use Rattle.flowing.proofs.path.spread.Statement.{statement}
 use Rattle.flowing.proofs.path.spread.Tie as tie
 
 abbrev Inv-loop : tie.InvT-loop
-Inv-loop ways next first res inside b path₀ queue₀ got₀ arc₀ before₀ path queue got arc before = (before ≤ 896) × (got .tail ≤ 128)
+Inv-loop ways arcs res inside b path₀ queue₀ got₀ arc₀ before₀ path queue got arc before = (before ≤ 896) × (got .tail ≤ 128)
 
 abbrev μ-loop : tie.MeasureT-loop
-μ-loop ways next first res inside b path₀ queue₀ got₀ arc₀ before₀ path queue got arc before = before
+μ-loop ways arcs res inside b path₀ queue₀ got₀ arc₀ before₀ path queue got arc before = before
+
+add-arc-of : tie.Need-add-arc-of Inv-loop μ-loop
+add-arc-of c = search needs
 
 mul-arc-of : tie.Need-mul-arc-of Inv-loop μ-loop
 mul-arc-of c = search needs
@@ -47,6 +50,7 @@ spread-spec =
     (tie.spec
     Inv-loop
     μ-loop
+    add-arc-of
     mul-arc-of
     element-copy-out-arc-of
     arc-of-requires

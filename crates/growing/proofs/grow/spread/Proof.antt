@@ -24,14 +24,14 @@ use Rattle.growing.proofs.grow.spread.Statement.{statement}
 use Rattle.growing.proofs.grow.spread.Tie as tie
 
 abbrev Inv-loop : tie.InvT-loop
-Inv-loop table names n k p own others degrees free₀ ways₀ next₀ first₀ ties₀ out₀ left₀ pairs₀ free ways next first ties out left pairs =
+Inv-loop table names n k p own others degrees free₀ ways₀ arcs₀ ties₀ out₀ left₀ pairs₀ free ways arcs ties out left pairs =
     Spread n (held table) k (pile n (heapOf names) p) p free degrees ties
     × Measured n (held table) (pile n (heapOf names) p) free ties out left
     × Ready n (held table) k (pile n (heapOf names) p) ways pairs
     × (left ≤ others)
 
 abbrev μ-loop : tie.MeasureT-loop
-μ-loop table names n k p own others degrees free₀ ways₀ next₀ first₀ ties₀ out₀ left₀ pairs₀ free ways next first ties out left pairs = left
+μ-loop table names n k p own others degrees free₀ ways₀ arcs₀ ties₀ out₀ left₀ pairs₀ free ways arcs ties out left pairs = left
 
 -- the pile, its bones, and that p is one of them
 abbrev pile-of : tie.Start Inv-loop μ-loop → Bones
@@ -83,90 +83,65 @@ returns-2 c =
 
 choose-requires : tie.Need-choose-requires Inv-loop μ-loop
 choose-requires c κs =
-    let s = c .before .before .before .before .before .before .before .before .before .before .before .before .before .before in
-    let l = c .before .before .before .before .before .before .before .before .before .before .before .loop in
+    let s = c .before .before .before .before .before .before .before .before .before .before .before .before .before in
+    let l = c .before .before .before .before .before .before .before .before .before .before .loop in
     (s .pre .0 .0, (l .inv .0, l .inv .2))
 
 returns-3 : tie.Need-returns-3 Inv-loop μ-loop
 returns-3 c =
-    let s = c .before .before .before .before .before .before .before .before .before .before .before .before .before .before .before .before in
-    let l = c .before .before .before .before .before .before .before .before .before .before .before .before .before .loop in
+    let s = c .before .before .before .before .before .before .before .before .before .before .before .before .before .before .before in
+    let l = c .before .before .before .before .before .before .before .before .before .before .before .before .loop in
     let v = c .before .choose in
     reached-light (s .args .n) (held (s .args .table .now)) (held-symmetric (s .args .table .now)) (s .args .k) (pile-of s) (s .args .p) (below-of s) (v .ensures .0 .found (c .if3 .taken))
 
 returns-4 : tie.Need-returns-4 Inv-loop μ-loop
 returns-4 c =
-    let s = c .before .before .before .before .before .before .before .before .before .before .before .before .before .before .before .before .before in
-    let l = c .before .before .before .before .before .before .before .before .before .before .before .before .before .before .loop in
+    let s = c .before .before .before .before .before .before .before .before .before .before .before .before .before .before .before .before in
+    let l = c .before .before .before .before .before .before .before .before .before .before .before .before .before .loop in
     let v = c .before .before .choose in
     subst (λ (m : List ℕ). Reached (s .args .n) (held (s .args .table .now)) (s .args .k) (pile-of s) (s .args .p) m false (l .left) 0) (sym (v .ensures .0 .same (c .before .if3 .left)))
     (reached-dark (s .args .n) (held (s .args .table .now)) (held-symmetric (s .args .table .now)) (s .args .k) (pile-of s) (s .args .p) (below-of s) (l .inv .0) (l .inv .1))
 
-mul-wide : tie.Need-mul-wide Inv-loop μ-loop
-mul-wide c = omega (arith, c .if4 .left)
-
-element-copy-out-wide : tie.Need-element-copy-out-wide Inv-loop μ-loop
-element-copy-out-wide c = c .if4 .left
-
-wide-requires : tie.Need-wide-requires Inv-loop μ-loop
-wide-requires c κs = tt
-
-add-out : tie.Need-add-out Inv-loop μ-loop
-add-out c =
-    let s = c .before .before .before .before .before .before .before .before .before .before .before .before .before .before .before .before .before .before .before in
-    let l = c .before .before .before .before .before .before .before .before .before .before .before .before .before .before .before .before .loop in
-    let v = c .before .before .before .before .choose in
-    omega (arith, out-fits (held-symmetric (s .args .table .now)) (below-of s) (s .pre .0 .0) (l .inv .0) (l .out) (l .left) (l .inv .1) (v .result .bone) (v .ensures .0 .one (c .before .before .before .if3 .left) (c .before .before .if4 .left)), c .wide .ensures .0)
-
-mul-out : tie.Need-mul-out Inv-loop μ-loop
-mul-out c = omega (arith, c .before .before .if4 .left)
-
-array-read-out : tie.Need-array-read-out Inv-loop μ-loop
-array-read-out c = c .before .before .if4 .left
-
-mul-out-2 : tie.Need-mul-out-2 Inv-loop μ-loop
-mul-out-2 c =
-    let s = c .before .before .before .before .before .before .before .before .before .before .before .before .before .before .before .before .before .before .before in
-    let l = c .before .before .before .before .before .before .before .before .before .before .before .before .before .before .before .before .loop in
-    let v = c .before .before .before .before .choose in
-    omega (arith, l .inv .0 .most (v .result .bone))
-
-sub-out : tie.Need-sub-out Inv-loop μ-loop
-sub-out c =
-    let s = c .before .before .before .before .before .before .before .before .before .before .before .before .before .before .before .before .before .before .before in
-    let l = c .before .before .before .before .before .before .before .before .before .before .before .before .before .before .before .before .loop in
-    let v = c .before .before .before .before .choose in
-    omega (arith, c .wide .ensures .0, out-covers (held-symmetric (s .args .table .now)) (below-of s) (s .pre .0 .0) (l .inv .0) (l .out) (l .left) (l .inv .1) (v .result .bone) (v .ensures .0 .one (c .before .before .before .if3 .left) (c .before .before .if4 .left)))
+out-with-requires : tie.Need-out-with-requires Inv-loop μ-loop
+out-with-requires c κs =
+    let s = c .before .before .before .before .before .before .before .before .before .before .before .before .before .before .before .before .before in
+    let l = c .before .before .before .before .before .before .before .before .before .before .before .before .before .before .loop in
+    let v = c .before .before .before .choose in
+    let isfree = v .ensures .0 .one (c .before .before .if3 .left) (c .before .if4 .left) in (
+      c .before .if4 .left,
+      out-fits (held-symmetric (s .args .table .now)) (below-of s) (s .pre .0 .0) (l .inv .0) (l .out) (l .left) (l .inv .1) (v .result .bone) isfree,
+      out-covers (held-symmetric (s .args .table .now)) (below-of s) (s .pre .0 .0) (l .inv .0) (l .out) (l .left) (l .inv .1) (v .result .bone) isfree,
+    )
 
 element-write-free : tie.Need-element-write-free Inv-loop μ-loop
 element-write-free c = c .before .before .if4 .left
 
 sub-left : tie.Need-sub-left Inv-loop μ-loop
-sub-left c = omega (arith, c .before .before .before .before .before .before .before .before .before .before .before .before .before .before .before .loop-test .taken)
+sub-left c = omega (arith, c .before .before .before .before .before .before .before .before .before .before .before .before .before .before .loop-test .taken)
 
 add-row-requires-2 : tie.Need-add-row-requires-2 Inv-loop μ-loop
 add-row-requires-2 c κs =
-    let s = c .before .before .before .before .before .before .before .before .before .before .before .before .before .before .before .before .before .before .before .before in
-    let l = c .before .before .before .before .before .before .before .before .before .before .before .before .before .before .before .before .before .loop in
+    let s = c .before .before .before .before .before .before .before .before .before .before .before .before .before .before .before .before .before .before .before in
+    let l = c .before .before .before .before .before .before .before .before .before .before .before .before .before .before .before .before .loop in
     let v = c .before .before .before .before .before .choose in
     ((s .pre .0 .0, beside-below (s .args .n) (pile-of s) (s .args .p) (below-of s) (v .result .bone) (l .inv .0 .others (v .result .bone) (v .ensures .0 .one (c .before .before .before .before .if3 .left) (c .before .before .before .if4 .left)))), record { long = l .inv .0 .ties-long; room = λ x. omega (arith, l .inv .0 .most x) })
 
 loop-less : tie.Need-loop-less Inv-loop μ-loop
-loop-less c = omega (arith, c .before .before .before .before .before .before .before .before .before .before .before .before .before .before .before .before .before .loop-test .taken)
+loop-less c = omega (arith, c .before .before .before .before .before .before .before .before .before .before .before .before .before .before .before .before .loop-test .taken)
 
 loop-again : tie.Need-loop-again Inv-loop μ-loop
 loop-again c =
-    let s = c .before .before .before .before .before .before .before .before .before .before .before .before .before .before .before .before .before .before .before .before .before in
-    let l = c .before .before .before .before .before .before .before .before .before .before .before .before .before .before .before .before .before .before .loop in
+    let s = c .before .before .before .before .before .before .before .before .before .before .before .before .before .before .before .before .before .before .before .before in
+    let l = c .before .before .before .before .before .before .before .before .before .before .before .before .before .before .before .before .before .loop in
     let v = c .before .before .before .before .before .before .choose in
-    let noted = c .before .before .wide in
+    let out = c .before .before .out-with in
     let n = s .args .n in
     let w = held (s .args .table .now) in
     let ties = c .add-row2 .last .1 .1 .1 .0 in
     let grown = subst
-    (λ (m : List ℕ). Spread n w (s .args .k) (pile-of s) (s .args .p) (set m (v .result .bone) 0) (s .args .degrees .now) ties × Measured n w (pile-of s) (set m (v .result .bone) 0) ties (l .out + noted .result - 2 * getD (l .ties) (v .result .bone) 0) (l .left - 1))
+    (λ (m : List ℕ). Spread n w (s .args .k) (pile-of s) (s .args .p) (set m (v .result .bone) 0) (s .args .degrees .now) ties × Measured n w (pile-of s) (set m (v .result .bone) 0) ties (out .result) (l .left - 1))
     (sym (v .ensures .0 .same (c .before .before .before .before .before .if3 .left)))
-    (spread-next (held-symmetric (s .args .table .now)) (below-of s) (s .pre .0 .0) (l .inv .0) (l .out) (l .left) (l .inv .1) (v .result .bone) (v .ensures .0 .one (c .before .before .before .before .before .if3 .left) (c .before .before .before .before .if4 .left)) ties (c .add-row2 .ensures) (v .ensures .0 .joins (c .before .before .before .before .before .if3 .left) (c .before .before .before .before .if4 .left)), subst (λ (d : ℕ). Measured n w (pile-of s) (set (l .free) (v .result .bone) 0) ties (l .out + d - 2 * getD (l .ties) (v .result .bone) 0) (l .left - 1)) (sym (noted .ensures .0)) (measured-next (held-symmetric (s .args .table .now)) (below-of s) (s .pre .0 .0) (l .inv .0) (l .out) (l .left) (l .inv .1) (v .result .bone) (v .ensures .0 .one (c .before .before .before .before .before .if3 .left) (c .before .before .before .before .if4 .left)) ties (c .add-row2 .ensures))) in
+    (spread-next (held-symmetric (s .args .table .now)) (below-of s) (s .pre .0 .0) (l .inv .0) (l .out) (l .left) (l .inv .1) (v .result .bone) (v .ensures .0 .one (c .before .before .before .before .before .if3 .left) (c .before .before .before .before .if4 .left)) ties (c .add-row2 .ensures) (v .ensures .0 .joins (c .before .before .before .before .before .if3 .left) (c .before .before .before .before .if4 .left)), subst (λ (z : ℕ). Measured n w (pile-of s) (set (l .free) (v .result .bone) 0) ties z (l .left - 1)) (sym (out .ensures)) (measured-next (held-symmetric (s .args .table .now)) (below-of s) (s .pre .0 .0) (l .inv .0) (l .out) (l .left) (l .inv .1) (v .result .bone) (v .ensures .0 .one (c .before .before .before .before .before .if3 .left) (c .before .before .before .before .if4 .left)) ties (c .add-row2 .ensures))) in
     (grown .0, grown .1, v .ensures .1, omega (arith, l .inv .3))
 
 returns-5 : tie.Need-returns-5 Inv-loop μ-loop
@@ -191,14 +166,7 @@ spread-spec =
     choose-requires
     returns-3
     returns-4
-    mul-wide
-    element-copy-out-wide
-    wide-requires
-    add-out
-    mul-out
-    array-read-out
-    mul-out-2
-    sub-out
+    out-with-requires
     element-write-free
     sub-left
     add-row-requires-2

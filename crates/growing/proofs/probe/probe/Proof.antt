@@ -11,7 +11,7 @@ probe-listed-requires : tie.Need-probe-listed-requires
 probe-listed-requires c κs = search needs
 
 returns : tie.Need-returns
-returns c = (c .probe-listed .ensures, c .before .before .before .before .before .list-once .ensures)
+returns c = (c .probe-listed .ensures, c .before .before .before .before .list-once .ensures)
 
 pub probe-spec : {M : Type 1} → statement M
 probe-spec = tie.close (tie.spec list-once-requires probe-listed-requires returns)

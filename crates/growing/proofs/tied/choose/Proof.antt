@@ -72,16 +72,16 @@ returns-3 c =
 
 probe-requires : tie.Need-probe-requires
 probe-requires c κs =
-    let s = c .before .before .before .before .before .before .before .before .before .before .before .before .before in
-    ((s .pre .0, s .pre .1 .0 .long, c .before .before .before .before .before .before .before .before .nearest .ensures (c .before .before .before .before .before .before .before .if2 .left)), (s .pre .1 .0 .others, s .pre .1 .1))
+    let s = c .before .before .before .before .before .before .before .before .before .before .before .before in
+    ((s .pre .0, s .pre .1 .0 .long, c .before .before .before .before .before .before .before .nearest .ensures (c .before .before .before .before .before .before .if2 .left)), (s .pre .1 .0 .others, s .pre .1 .1))
 
 joining-requires-4 : tie.Need-joining-requires-4
 joining-requires-4 c κs = search needs
 
 returns-4 : tie.Need-returns-4
 returns-4 c =
-    let s = c .before .before .before .before .before .before .before .before .before .before .before .before .before .before .before .before in
-    let t = c .before .before .before .before .before .before .before .before .before .before .before .nearest in
+    let s = c .before .before .before .before .before .before .before .before .before .before .before .before .before .before .before in
+    let t = c .before .before .before .before .before .before .before .before .before .before .nearest in
     let r = c .before .before .probe .ensures in
     let told = c .before .if4 .taken in
     let n = s .args .n in
@@ -108,11 +108,11 @@ returns-5 c =
 
 by-three-requires : tie.Need-by-three-requires
 by-three-requires c κs =
-    let s = c .before .before .before .before .before .before .before .before .before .before .before .before .before .before .before .before .before in
-    let t = c .before .before .before .before .before .before .before .before .before .before .before .before .nearest in (
+    let s = c .before .before .before .before .before .before .before .before .before .before .before .before .before .before .before .before in
+    let t = c .before .before .before .before .before .before .before .before .before .before .before .nearest in (
       s .pre .0,
-      beside-below (s .args .n) (pile (s .args .n) (heapOf (s .args .names .now)) (s .args .p)) (s .args .p) (pile-bone (s .args .n) (heapOf (s .args .names .now)) (s .args .p)) (t .result) (s .pre .1 .0 .others (t .result) (t .ensures (c .before .before .before .before .before .before .before .before .before .before .before .if2 .left))),
-      c .before .before .before .before .before .before .before .before .before .steps-of .ensures .1,
+      beside-below (s .args .n) (pile (s .args .n) (heapOf (s .args .names .now)) (s .args .p)) (s .args .p) (pile-bone (s .args .n) (heapOf (s .args .names .now)) (s .args .p)) (t .result) (s .pre .1 .0 .others (t .result) (t .ensures (c .before .before .before .before .before .before .before .before .before .before .if2 .left))),
+      c .before .before .before .before .before .before .before .before .steps-of .ensures .1,
       s .pre .1 .0 .most,
     )
 
@@ -121,15 +121,15 @@ joining-requires-5 c κs = search needs
 
 returns-6 : tie.Need-returns-6
 returns-6 c =
-    let s = c .before .before .before .before .before .before .before .before .before .before .before .before .before .before .before .before .before .before .before .before in
-    let t = c .before .before .before .before .before .before .before .before .before .before .before .before .before .before .before .nearest in
+    let s = c .before .before .before .before .before .before .before .before .before .before .before .before .before .before .before .before .before .before .before in
+    let t = c .before .before .before .before .before .before .before .before .before .before .before .before .before .before .nearest in
     let r = c .before .before .before .before .before .before .probe .ensures in
     let same = r .0 .same (c .before .before .before .before .if5 .left) in
     let n = s .args .n in
     let w = held (s .args .table .now) in
     let S = pile n (heapOf (s .args .names .now)) (s .args .p) in
-    let three = subst (λ (m : List ℕ). ByThree n w (s .args .k) (marked m) (s .args .ties .now) (t .result) (c .before .before .before .before .before .before .before .before .before .before .before .before .steps-of .result)) same (c .before .before .by-three .ensures (c .before .if6 .taken)) in
-    let tied = subst (ByThree n w (s .args .k) (marked (s .args .free .now)) (s .args .ties .now) (t .result)) (c .before .before .before .before .before .before .before .before .before .before .before .before .steps-of .ensures .0) three in (
+    let three = subst (λ (m : List ℕ). ByThree n w (s .args .k) (marked m) (s .args .ties .now) (t .result) (c .before .before .before .before .before .before .before .before .before .before .before .steps-of .result)) same (c .before .before .by-three .ensures (c .before .if6 .taken)) in
+    let tied = subst (ByThree n w (s .args .k) (marked (s .args .free .now)) (s .args .ties .now) (t .result)) (c .before .before .before .before .before .before .before .before .before .before .before .steps-of .ensures .0) three in (
       subst
           (λ (m : List ℕ). Chosen n w (s .args .k) S (s .args .p) (s .args .free .now) m (c .joining5 .result .bone) (c .joining5 .result .light) (c .joining5 .result .weight))
           (sym same)
@@ -139,7 +139,7 @@ returns-6 c =
 
 tied-by-two-requires : tie.Need-tied-by-two-requires
 tied-by-two-requires c κs =
-    let s = c .before .before .before .before .before .before .before .before .before .before .before .before .before .before .before .before .before .before .before .before in
+    let s = c .before .before .before .before .before .before .before .before .before .before .before .before .before .before .before .before .before .before .before in
     (s .pre .0, s .pre .1 .0 .most)
 
 joining-requires-6 : tie.Need-joining-requires-6
@@ -147,7 +147,7 @@ joining-requires-6 c κs = search needs
 
 returns-7 : tie.Need-returns-7
 returns-7 c =
-    let s = c .before .before .before .before .before .before .before .before .before .before .before .before .before .before .before .before .before .before .before .before .before .before in
+    let s = c .before .before .before .before .before .before .before .before .before .before .before .before .before .before .before .before .before .before .before .before .before in
     let u = c .before .tied-by-two in
     let r = c .before .before .before .before .before .before .before .before .probe .ensures in
     let same = r .0 .same (c .before .before .before .before .before .before .if5 .left) in

@@ -11,36 +11,30 @@ use borrow.Author.Needs.{needs}
 use Rattle.growing.proofs.ways.list_bone.Statement.{statement}
 use Rattle.growing.proofs.ways.list_bone.Tie as tie
 
--- src/ways.rt:146:9
 returns : tie.Need-returns
 returns c = search needs
 
--- src/ways.rt:148:13
 element-copy-out-bone : tie.Need-element-copy-out-bone
 element-copy-out-bone c = search needs
 
--- src/ways.rt:148:8
 bone-requires : tie.Need-bone-requires
 bone-requires c κs = search needs
 
--- src/ways.rt:149:9
 list-row-requires : tie.Need-list-row-requires
 unfolding heapOf
 list-row-requires c κs =
-    let s = c .before .before .before .before .before .before .before in (
+    let s = c .before .before .before .before .before .before in (
       s .pre .0,
       (
         pile-intro (s .args .n) (heapOf (s .args .names .now)) (s .args .p) (s .args .i) (s .pre .0 .2)
-            (sym (c .before .before .before .before .bone .ensures .0) ∙ c .before .before .before .if2 .taken),
+            (sym (c .before .before .before .bone .ensures .0) ∙ c .before .before .if2 .taken),
         s .pre .1,
       ),
     )
 
--- src/ways.rt:149:9
 returns-2 : tie.Need-returns-2
 returns-2 c = search needs
 
--- src/ways.rt:129:1
 returns-3 : tie.Need-returns-3
 unfolding heapOf
 returns-3 c =

@@ -16,32 +16,27 @@ use Rattle.growing.proofs.WaysListed.{listed-put, listed-outside, liste
 use Rattle.growing.proofs.ways.list_pair.Statement.{statement}
 use Rattle.growing.proofs.ways.list_pair.Tie as tie
 
--- src/ways.rt:90:9
 room-of-requires : tie.Need-room-of-requires
 room-of-requires c κs = search needs
 
--- src/ways.rt:92:17
 element-copy-out-bone : tie.Need-element-copy-out-bone
 element-copy-out-bone c = search needs
 
--- src/ways.rt:92:12
 bone-requires : tie.Need-bone-requires
 bone-requires c κs = search needs
 
--- src/ways.rt:94:17
 put-way-requires : tie.Need-put-way-requires
 put-way-requires c κs = search needs
 
--- src/ways.rt:95:24
 add-result : tie.Need-add-result
 add-result c = search needs
 
 returns : tie.Need-returns
 unfolding heapOf
 returns c =
-    let s = c .before .before .before .before .before .before .before .before .before .before in
+    let s = c .before .before .before .before .before .before .before .before .before in
     let S = pile (s .args .n) (heapOf (s .args .names .now)) (s .args .p) in
-    let room = c .before .before .before .before .before .before .before .before .before .room-of in
+    let room = c .before .before .before .before .before .before .before .before .room-of in
     subst
     (λ (l : List ℕ). Listed (held (s .args .table .now)) (s .args .k) S l (s .args .m + 1) (s .args .i) (s .args .j + 1))
     (sym (c .put-way .ensures))
@@ -49,10 +44,10 @@ returns c =
     (held-symmetric (s .args .table .now))
     (s .pre .1 .0)
     (pile-intro (s .args .n) (heapOf (s .args .names .now)) (s .args .p) (s .args .j) (omega (arith, s .pre .0))
-    (sym (c .before .before .before .before .before .before .bone .ensures .0) ∙ c .before .before .before .before .before .if2 .taken))
+    (sym (c .before .before .before .before .before .bone .ensures .0) ∙ c .before .before .before .before .if2 .taken))
     (omega (arith, s .pre .0))
     (omega (arith, s .pre .0))
-    (c .before .before .before .before .if3 .taken)
+    (c .before .before .before .if3 .taken)
     (room .result)
     (room .ensures .0))
 

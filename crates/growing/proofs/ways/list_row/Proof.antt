@@ -11,19 +11,19 @@ use Rattle.growing.proofs.ways.list_row.Statement.{statement}
 use Rattle.growing.proofs.ways.list_row.Tie as tie
 
 abbrev Inv-loop : tie.InvT-loop
-Inv-loop table names n k p i ways₀ next₀ first₀ m listed₀ j₀ ways next first listed j =
+Inv-loop table names n k p i ways₀ arcs₀ m listed₀ j₀ ways arcs listed j =
     (j ≤ i) × Listed (held table) k (pile n (heapOf names) p) ways listed i j
 
 abbrev μ-loop : tie.MeasureT-loop
-μ-loop table names n k p i ways₀ next₀ first₀ m listed₀ j₀ ways next first listed j = i - j
+μ-loop table names n k p i ways₀ arcs₀ m listed₀ j₀ ways arcs listed j = i - j
 
 loop-holds : tie.Need-loop-holds Inv-loop μ-loop
 loop-holds c = (zero-le, c .pre .1 .1)
 
 list-pair-requires : tie.Need-list-pair-requires Inv-loop μ-loop
 list-pair-requires c κs =
-    let s = c .before .before .before .before .before in
-    ((s .pre .0 .0, s .pre .0 .1, s .pre .0 .2, c .before .before .before .loop-test .taken), (s .pre .1 .0, c .before .before .before .before .loop .inv .1))
+    let s = c .before .before .before .before in
+    ((s .pre .0 .0, s .pre .0 .1, s .pre .0 .2, c .before .before .loop-test .taken), (s .pre .1 .0, c .before .before .before .loop .inv .1))
 
 add-j : tie.Need-add-j Inv-loop μ-loop
 add-j c = omega arith

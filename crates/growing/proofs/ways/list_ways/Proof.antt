@@ -12,49 +12,37 @@ use Rattle.growing.proofs.ways.list_ways.Statement.{statement}
 use Rattle.growing.proofs.ways.list_ways.Tie as tie
 
 abbrev Inv-loop : tie.InvT-loop
-Inv-loop table names n k p ways₀ next₀ first₀ most m₀ i₀ ways next first m i =
+Inv-loop table names n k p ways₀ arcs₀ most m₀ i₀ ways arcs m i =
     (i ≤ n) × Listed (held table) k (pile n (heapOf names) p) ways m i 0
 
 abbrev μ-loop : tie.MeasureT-loop
-μ-loop table names n k p ways₀ next₀ first₀ most m₀ i₀ ways next first m i = n - i
+μ-loop table names n k p ways₀ arcs₀ most m₀ i₀ ways arcs m i = n - i
 
--- src/ways.rt:178:9
 returns : tie.Need-returns Inv-loop μ-loop
 returns c = ready-none (c .before .pre .1) (omega arith)
 
--- src/ways.rt:180:16
 cast-most : tie.Need-cast-most Inv-loop μ-loop
 cast-most c = omega arith
 
--- src/ways.rt:181:5
-no-arcs-requires : tie.Need-no-arcs-requires Inv-loop μ-loop
-no-arcs-requires c κs = tt
-
--- src/ways.rt:183:5
 loop-holds : tie.Need-loop-holds Inv-loop μ-loop
-loop-holds c = (zero-le, listed-start _ _ _ _ (c .before .before .before .pre .1))
+loop-holds c = (zero-le, listed-start _ _ _ _ (c .before .before .pre .1))
 
--- src/ways.rt:184:9
 list-bone-requires : tie.Need-list-bone-requires Inv-loop μ-loop
-list-bone-requires c κs = ((omega arith, omega arith, omega arith), c .before .before .before .before .loop .inv .1)
+list-bone-requires c κs = ((omega arith, omega arith, omega arith), c .before .before .before .loop .inv .1)
 
--- src/ways.rt:183:9
 add-i : tie.Need-add-i Inv-loop μ-loop
 add-i c = omega arith
 
--- src/ways.rt:183:5
 loop-less : tie.Need-loop-less Inv-loop μ-loop
 loop-less c = omega arith
 
--- src/ways.rt:183:5
 loop-again : tie.Need-loop-again Inv-loop μ-loop
 loop-again c = (omega arith, c .list-bone .ensures)
 
--- src/ways.rt:163:1
 returns-2 : tie.Need-returns-2 Inv-loop μ-loop
 returns-2 c =
     let l = c .before .loop in
-    let a = c .before .before .before .before .before .args in
+    let a = c .before .before .before .before .args in
     let S = pile (a .n) (heapOf (a .names .now)) (a .p) in
     let all : l .i ≡ a .n = omega arith in
     let so : Listed (held (a .table .now)) (a .k) S (l .ways) (l .m) (a .n) 0 = subst (λ (i : ℕ). Listed (held (a .table .now)) (a .k) S (l .ways) (l .m) i 0) all (l .inv .1) in
@@ -68,7 +56,6 @@ list-ways-spec =
     μ-loop
     returns
     cast-most
-    no-arcs-requires
     loop-holds
     list-bone-requires
     add-i
