@@ -1,7 +1,5 @@
 // Whether paths of two tie every free bone to the grown set by k or more: then the pile has no light split, and all of them join at once.
-use crate::row::pair;
-use crate::tied::step;
-use crate::tied::steps_below;
+use crate::tied::steps_of;
 ghost use mathlib.Core.Path.{_≡_};
 ghost use mathlib.Core.Bool.{true};
 ghost use Prim.Native.Nat.{ℕ, _<_, _≤_, _^_};
@@ -10,36 +8,14 @@ ghost use Rattle.pairs.specs.Table.{held};
 ghost use Rattle.pairs.specs.Marks.{marked};
 ghost use Rattle.growing.specs.Grow.{steps, AllByTwo};
 
-// Whether the tie of bone v and its paths of two come to k or more. It stops as soon as they do.
-fn by_two(
-    table: &[u32; 16384],
-    free: &[u8; 128],
-    ties: &[u64; 128],
-    n: usize,
-    k: u64,
-    v: usize,
-) -> bool
-    requires { ⌜ (n ≤ 128) × (v < n) × (getD (now ties) v 0 ≤ 2 ^ 40) ⌝ }
-    ensures { λ r. ⌜ (r ≡ true → k ≤ steps n (held (now (table .entry))) (marked (now (free .entry))) (now (ties .entry)) v) ⌝ }
-{
-    let mut total = steps_below(table, free, ties, v);
-    for x in v + 1..n {
-        if k <= total {
-            return true;
-        }
-        total += step(free, ties, x, pair(table, x, v));
-    }
-    k <= total
-}
-
-// Whether that is so of every free bone. It stops at the first of which it is not.
+// Whether the tie and the paths of two of every free bone come to k or more. It stops at the first of which it is not so.
 fn all_by_two(table: &[u32; 16384], free: &[u8; 128], ties: &[u64; 128], n: usize, k: u64) -> bool
     requires { ⌜ (n ≤ 128) × ((x : ℕ) → getD (now ties) x 0 ≤ 2 ^ 40) ⌝ }
     ensures { λ r. ⌜ (r ≡ true → AllByTwo n (held (now (table .entry))) k (marked (now (free .entry))) (now (ties .entry))) ⌝ }
 {
     for v in 0..n {
         if free[v] == 1 {
-            if !by_two(table, free, ties, n, k, v) {
+            if steps_of(table, free, ties, n, k, v) < k {
                 return false;
             }
         }

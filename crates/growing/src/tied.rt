@@ -37,7 +37,7 @@ fn tied(free: &[u8; 128], degrees: &[u32; 128], ties: &[u64; 128], n: usize, k: 
 }
 
 // What a path of two by way of bone x adds, where x is free: the lesser of a tally and x's tie.
-pub(crate) fn step(free: &[u8; 128], ties: &[u64; 128], x: usize, tally: u64) -> u64
+fn step(free: &[u8; 128], ties: &[u64; 128], x: usize, tally: u64) -> u64
     requires { ⌜ x < 128 ⌝ }
     ensures { λ r. ⌜ (r ≡ cond (marked (now (free .entry)) x) (min tally (getD (now (ties .entry)) x 0)) 0) × (r ≤ tally) ⌝ }
 {
@@ -50,12 +50,7 @@ pub(crate) fn step(free: &[u8; 128], ties: &[u64; 128], x: usize, tally: u64) ->
 }
 
 // The tie of bone v, and its paths of two by way of lesser bones.
-pub(crate) fn steps_below(
-    table: &[u32; 16384],
-    free: &[u8; 128],
-    ties: &[u64; 128],
-    v: usize,
-) -> u64
+fn steps_below(table: &[u32; 16384], free: &[u8; 128], ties: &[u64; 128], v: usize) -> u64
     requires { ⌜ (v < 128) × (getD (now ties) v 0 ≤ 2 ^ 40) ⌝ }
     ensures { λ r. ⌜ (r ≡ getD (now (ties .entry)) v 0 + sum v (λ x. cond (beside (marked (now (free .entry))) v x) (min (held (now (table .entry)) v x) (getD (now (ties .entry)) x 0)) 0)) × (r ≤ 2 ^ 40 + v * 2 ^ 32) ⌝ }
 {
@@ -66,13 +61,23 @@ pub(crate) fn steps_below(
     total
 }
 
-// The tie of bone v, and its paths of two to the grown set.
-fn steps_of(table: &[u32; 16384], free: &[u8; 128], ties: &[u64; 128], n: usize, v: usize) -> u64
+// The tie of bone v, and its paths of two to the grown set; where they come to k or more, no more than it takes to tell so.
+pub(crate) fn steps_of(
+    table: &[u32; 16384],
+    free: &[u8; 128],
+    ties: &[u64; 128],
+    n: usize,
+    k: u64,
+    v: usize,
+) -> u64
     requires { ⌜ (n ≤ 128) × (v < n) × (getD (now ties) v 0 ≤ 2 ^ 40) ⌝ }
-    ensures { λ r. ⌜ (r ≡ steps n (held (now (table .entry))) (marked (now (free .entry))) (now (ties .entry)) v) × (r ≤ 2 ^ 41) ⌝ }
+    ensures { λ r. ⌜ (r ≤ steps n (held (now (table .entry))) (marked (now (free .entry))) (now (ties .entry)) v) × (r ≤ 2 ^ 41) × (r < k → r ≡ steps n (held (now (table .entry))) (marked (now (free .entry))) (now (ties .entry)) v) ⌝ }
 {
     let mut total = steps_below(table, free, ties, v);
     for x in v + 1..n {
+        if k <= total {
+            return total;
+        }
         total += step(free, ties, x, pair(table, x, v));
     }
     total
@@ -85,7 +90,7 @@ fn tied_by_two(table: &[u32; 16384], free: &[u8; 128], ties: &[u64; 128], n: usi
 {
     for v in 0..n {
         if free[v] == 1 {
-            if k <= steps_of(table, free, ties, n, v) {
+            if k <= steps_of(table, free, ties, n, k, v) {
                 return v;
             }
         }
@@ -172,7 +177,7 @@ pub(crate) fn choose(
     if 128 <= t {
         return joining(t, m);
     }
-    let two = steps_of(table, free, ties, n, t);
+    let two = steps_of(table, free, ties, n, k, t);
     if k <= two {
         return joining(t, m);
     }

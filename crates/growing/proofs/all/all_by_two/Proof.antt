@@ -1,10 +1,9 @@
 -- `growing::all::all_by_two` meets its contract: of every free bone below v it is so.
 -- Assumes nothing.
 use Prim.Native.Nat.{ℕ, zero-le, _-_, _≤_, _<_}
-use mathlib.Core.Path.{_≡_, refl, sym, subst}
+use mathlib.Core.Path.{_≡_, sym, subst}
 use mathlib.Core.Logic.{⊎-elim}
-use mathlib.Core.Bool.{Bool, true, false, not}
-use native.Mathlib.Nat.{not-suc-le-zero}
+use native.Mathlib.Nat.{not-suc-le-zero, le-trans}
 use native.Mathlib.Numerals.{add-one}
 use native.Mathlib.Omega.{arith}
 use lib.Dec.{T, T-not}
@@ -17,7 +16,7 @@ use Rattle.growing.proofs.all.all_by_two.Statement.{statement}
 use Rattle.growing.proofs.all.all_by_two.Tie as tie
 use Rattle.growing.proofs.all.all_by_two.Reads as reads
 use Rattle.growing.proofs.all.all_by_two.Lts as lts
-use Rattle.growing.proofs.all.by_two.Reads as by-two-reads
+use Rattle.growing.proofs.tied.steps_of.Reads as steps-of-reads
 
 abbrev Inv-loop : tie.InvT-loop
 Inv-loop table free ties n k v₀ v = (v ≤ n) × ((b : ℕ) → b < v → T (marked free b) → k ≤ steps n (held table) (marked free) ties b)
@@ -31,8 +30,8 @@ loop-holds c = (zero-le, λ b h. absurd (not-suc-le-zero h))
 element-copy-out-if1 : tie.Need-element-copy-out-if1 Inv-loop μ-loop
 element-copy-out-if1 c = omega arith
 
-by-two-requires : tie.Need-by-two-requires Inv-loop μ-loop
-by-two-requires c κs = (omega arith, omega arith, c .before .before .before .before .pre .1 _)
+steps-of-requires : tie.Need-steps-of-requires Inv-loop μ-loop
+steps-of-requires c κs = (omega arith, omega arith, c .before .before .before .before .pre .1 _)
 
 returns : tie.Need-returns Inv-loop μ-loop
 returns c = λ h. absurd (subst T (sym h) tt)
@@ -43,10 +42,6 @@ add-v c = omega arith
 loop-less : tie.Need-loop-less Inv-loop μ-loop
 loop-less c = omega arith
 
-not-false : (b : Bool) → not b ≡ false → b ≡ true
-not-false true q = refl
-not-false false q = absurd (subst T q tt)
-
 loop-again : tie.Need-loop-again Inv-loop μ-loop
 unfolding marked
 loop-again c =
@@ -56,7 +51,7 @@ loop-again c =
       omega arith,
       λ b h t. ⊎-elim
           (λ (q : b ≡ l .v). ⊎-elim
-          (λ w. subst (λ (i : ℕ). a .k ≤ steps (a .n) (held (a .table .now)) (marked (a .free .now)) (a .ties .now) i) (sym q) (w .1 .ensures (not-false (w .1 .result) (w .2 .left))))
+          (λ w. subst (λ (i : ℕ). a .k ≤ steps (a .n) (held (a .table .now)) (marked (a .free .now)) (a .ties .now) i) (sym q) (le-trans (w .2 .left) (w .1 .ensures .0)))
           (λ w. absurd (T-not (marked (a .free .now) (l .v)) (ne→neqb _ 1 (w .left)) (subst (λ (i : ℕ). T (marked (a .free .now) i)) q t)))
           (c .if1 .came))
           (λ r. l .inv .1 b r t)
@@ -75,7 +70,7 @@ all-by-two-spec =
     μ-loop
     loop-holds
     element-copy-out-if1
-    by-two-requires
+    steps-of-requires
     returns
     add-v
     loop-less

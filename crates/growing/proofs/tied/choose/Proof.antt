@@ -129,7 +129,7 @@ returns-6 c =
     let w = held (s .args .table .now) in
     let S = pile n (heapOf (s .args .names .now)) (s .args .p) in
     let three = subst (λ (m : List ℕ). ByThree n w (s .args .k) (marked m) (s .args .ties .now) (t .result) (c .before .before .before .before .before .before .before .before .before .before .before .steps-of .result)) same (c .before .before .by-three .ensures (c .before .if6 .taken)) in
-    let tied = subst (ByThree n w (s .args .k) (marked (s .args .free .now)) (s .args .ties .now) (t .result)) (c .before .before .before .before .before .before .before .before .before .before .before .steps-of .ensures .0) three in (
+    let tied = subst (ByThree n w (s .args .k) (marked (s .args .free .now)) (s .args .ties .now) (t .result)) (c .before .before .before .before .before .before .before .before .before .before .before .steps-of .ensures .2 (c .before .before .before .before .before .before .before .before .before .before .if3 .left)) three in (
       subst
           (λ (m : List ℕ). Chosen n w (s .args .k) S (s .args .p) (s .args .free .now) m (c .joining5 .result .bone) (c .joining5 .result .light) (c .joining5 .result .weight))
           (sym same)

@@ -1,9 +1,9 @@
--- `growing::tied::steps_of` meets its contract: after x turns the paths by way of the bones below x are added, but for v itself.
+-- `growing::tied::steps_of` meets its contract: after x turns the paths by way of the bones below x are added, but for v itself, which are part of all.
 -- Assumes nothing.
 use Prim.Native.Nat.{ℕ, _+_, _*_, _^_, _-_, _≤_, min}
 use mathlib.Core.Path.{_≡_, _∙_, ap}
 use mathlib.Core.Bool.{cond}
-use native.Mathlib.Nat.{le-refl}
+use native.Mathlib.Nat.{le-refl, le-of-eq}
 use native.Mathlib.Omega.{arith}
 use lib.ListN.{getD}
 use Rattle.meaning.specs.Count.{sum}
@@ -11,7 +11,7 @@ use Rattle.pairs.specs.Table.{held}
 use Rattle.pairs.specs.Marks.{marked}
 use Rattle.growing.specs.Grow.{beside, steps}
 use Rattle.meaning.proofs.Sums.{sum-next}
-use Rattle.growing.proofs.GrowRows.{beside-other, beside-self}
+use Rattle.growing.proofs.GrowRows.{sum-part, beside-other, beside-self}
 use Rattle.growing.proofs.tied.steps_of.Statement.{statement}
 use Rattle.growing.proofs.tied.steps_of.Tie as tie
 use Rattle.growing.proofs.tied.steps_of.Reads as reads
@@ -21,10 +21,10 @@ use Rattle.growing.proofs.tied.step.Reads as step-reads
 use Rattle.growing.proofs.tied.steps_below.Reads as steps-below-reads
 
 abbrev Inv-loop : tie.InvT-loop
-Inv-loop table free ties n v total₀ x₀ total x = (v + 1 ≤ x) × (x ≤ n) × (total ≡ getD ties v 0 + sum x (λ i. cond (beside (marked free) v i) (min (held table v i) (getD ties i 0)) 0)) × (total ≤ 2 ^ 40 + x * 2 ^ 32)
+Inv-loop table free ties n k v total₀ x₀ total x = (v + 1 ≤ x) × (x ≤ n) × (total ≡ getD ties v 0 + sum x (λ i. cond (beside (marked free) v i) (min (held table v i) (getD ties i 0)) 0)) × (total ≤ 2 ^ 40 + x * 2 ^ 32)
 
 abbrev μ-loop : tie.MeasureT-loop
-μ-loop table free ties n v total₀ x₀ total x = n - x
+μ-loop table free ties n k v total₀ x₀ total x = n - x
 
 steps-below-requires : tie.Need-steps-below-requires Inv-loop μ-loop
 steps-below-requires c κs = (omega arith, c .pre .2)
@@ -47,6 +47,16 @@ loop-holds c =
       omega (arith, c .steps-below .ensures .1),
     )
 
+returns : tie.Need-returns Inv-loop μ-loop
+unfolding steps
+returns c =
+    let l = c .before .before .loop in
+    let a = c .before .before .before .before .args in (
+      omega (arith, l .inv .2, sum-part (a .n) (l .x) (λ i. cond (beside (marked (a .free .now)) (a .v) i) (min (held (a .table .now) (a .v) i) (getD (a .ties .now) i 0)) 0) (l .inv .1)),
+      omega arith,
+      λ h. absurd (omega (arith, c .if1 .taken)),
+    )
+
 pair-requires : tie.Need-pair-requires Inv-loop μ-loop
 pair-requires c κs = omega arith
 
@@ -64,8 +74,8 @@ loop-less c = omega arith
 
 loop-again : tie.Need-loop-again Inv-loop μ-loop
 loop-again c =
-    let l = c .before .before .before .loop in
-    let a = c .before .before .before .before .before .args in
+    let l = c .before .before .before .before .loop in
+    let a = c .before .before .before .before .before .before .args in
     let free = marked (a .free .now) in (
       omega arith,
       omega arith,
@@ -78,13 +88,14 @@ loop-again c =
       omega (arith, c .step .ensures .1, c .before .pair .ensures .2),
     )
 
-returns : tie.Need-returns Inv-loop μ-loop
+returns-2 : tie.Need-returns-2 Inv-loop μ-loop
 unfolding steps
-returns c =
+returns-2 c =
     let l = c .before .loop in
     let a = c .before .before .before .args in
     let all : l .x ≡ a .n = omega arith in
-    (l .inv .2 ∙ ap (λ (m : ℕ). getD (a .ties .now) (a .v) 0 + sum m (λ i. cond (beside (marked (a .free .now)) (a .v) i) (min (held (a .table .now) (a .v) i) (getD (a .ties .now) i 0)) 0)) all, omega arith)
+    let whole = l .inv .2 ∙ ap (λ (m : ℕ). getD (a .ties .now) (a .v) 0 + sum m (λ i. cond (beside (marked (a .free .now)) (a .v) i) (min (held (a .table .now) (a .v) i) (getD (a .ties .now) i 0)) 0)) all in
+    (le-of-eq whole, omega arith, λ h. whole)
 
 pub steps-of-spec : {M : Type 1} → statement M
 steps-of-spec =
@@ -95,10 +106,11 @@ steps-of-spec =
     steps-below-requires
     add-x
     loop-holds
+    returns
     pair-requires
     step-requires
     add-total
     add-x-2
     loop-less
     loop-again
-    returns)
+    returns-2)

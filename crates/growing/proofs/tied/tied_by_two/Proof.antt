@@ -2,7 +2,7 @@
 -- Assumes nothing.
 use Prim.Native.Nat.{ℕ, zero-le, _-_, _≤_}
 use mathlib.Core.Path.{_≡_, subst}
-use native.Mathlib.Nat.{le-trans, le-of-eq}
+use native.Mathlib.Nat.{le-trans}
 use native.Mathlib.Omega.{arith}
 use Rattle.meaning.proofs.Tests.{eq→eqb}
 use Rattle.pairs.specs.Marks.{marked}
@@ -30,7 +30,7 @@ steps-of-requires c κs = (omega arith, omega arith, c .before .before .before .
 
 returns : tie.Need-returns Inv-loop μ-loop
 unfolding marked
-returns c = record { one = λ h. eq→eqb _ 1 (c .before .before .if1 .taken); tie = λ h. le-trans (c .if2 .taken) (le-of-eq (c .before .steps-of .ensures .0)) }
+returns c = record { one = λ h. eq→eqb _ 1 (c .before .before .if1 .taken); tie = λ h. le-trans (c .if2 .taken) (c .before .steps-of .ensures .0) }
 
 add-v : tie.Need-add-v Inv-loop μ-loop
 add-v c = omega arith
