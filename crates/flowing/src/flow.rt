@@ -8,7 +8,7 @@ use crate::way::end_x;
 use crate::way::end_y;
 use crate::way::room;
 ghost use mathlib.Core.Path.{_≡_};
-ghost use Prim.Native.Nat.{ℕ, _<_, _≤_};
+ghost use Prim.Native.Nat.{_<_, _≤_};
 ghost use lib.ListN.{length};
 ghost use Rattle.pairs.specs.Marks.{marked};
 ghost use Rattle.flowing.specs.Flow.{leaves, waysOf, wayOut, unmarked, Sends, Clear, Flowed};

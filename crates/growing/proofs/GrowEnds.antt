@@ -1,11 +1,10 @@
 -- Where a growth starts and how it ends: marks, light sides as marks, and what is known of the pile's blocks afterwards.
 -- Assumes nothing.
-use Prim.Native.Nat.{ℕ, _+_, _*_, _≤_, _<_, _^_, zero-le}
+use Prim.Native.Nat.{ℕ, _+_, _≤_, _<_, _^_, zero-le}
 use mathlib.Core.Path.{_≡_, refl, sym, _∙_, ap, subst}
 use mathlib.Core.Logic.{⊎-elim}
-use mathlib.Core.Bool.{Bool, true, false, cond, not, _&&_, _||_}
+use mathlib.Core.Bool.{Bool, true, false, cond, not, _&&_}
 use mathlib.Core.List.{List}
-use native.Mathlib.Nat.{le-refl}
 use native.Mathlib.Omega.{arith}
 use lib.Dec.{T, eqb, ltb, ltb→lt, nltb→le, eqb→eq, T-not, not-T}
 use lib.ListN.{length, getD, set, replicate, length-replicate}
@@ -15,7 +14,7 @@ use borrow.Author.Tests.{eqb-true}
 use Rattle.meaning.specs.Count.{Bones, sum, count, some}
 use Rattle.meaning.specs.Tally.{Tally, Symmetric, weight}
 use Rattle.meaning.specs.Heap.{Heap}
-use Rattle.meaning.proofs.Tests.{_⇒_, imp, taut, so, _⊃_, decide, same-test, is-true, is-false, eq→eqb, neqb→ne, both, left-of, right-of}
+use Rattle.meaning.proofs.Tests.{_⇒_, imp, taut, so, _⊃_, decide, same-test, is-true, is-false, eq→eqb, both, left-of, right-of}
 use Rattle.meaning.proofs.Sums.{sum-ext, sum-zero, sum-term, count-same}
 use Rattle.meaning.proofs.Sets.{some-intro, some-elim}
 use Rattle.pairs.specs.Side.{heapOf}

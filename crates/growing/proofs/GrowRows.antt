@@ -5,14 +5,14 @@ use mathlib.Core.Path.{_≡_, refl, sym, _∙_, ap, subst}
 use mathlib.Core.Bool.{Bool, true, false, cond, not, _&&_}
 use mathlib.Core.List.{List}
 use mathlib.Core.Logic.{⊎-elim}
-use native.Mathlib.Nat.{add-zero, le-of-eq}
+use native.Mathlib.Nat.{le-of-eq}
 use native.Mathlib.Numerals.{add-one}
 use native.Mathlib.Omega.{arith}
 use lib.Dec.{T, eqb, ltb, ltb→lt, nltb→le}
 use lib.ListN.{length, getD, set, length-set}
 use lib.Seq.{getD-set-same, getD-set-other}
 use Rattle.meaning.specs.Count.{Bones, sum}
-use Rattle.meaning.proofs.Tests.{decide, is-false, is-true, eq→eqb, ne→neqb}
+use Rattle.meaning.proofs.Tests.{decide, eq→eqb, ne→neqb}
 use Rattle.meaning.proofs.Sets.{last-or-below}
 use Rattle.pairs.specs.Marks.{Room}
 use Rattle.growing.specs.Grow.{beside, Added}

@@ -2,25 +2,25 @@
 -- Assumes nothing.
 use Prim.Native.Nat.{ℕ, zero, suc, _+_, _*_, _-_, _≤_, _<_, _^_, zero-le, min}
 use mathlib.Core.Path.{_≡_, refl, sym, _∙_, ap, ap₂, subst}
-use mathlib.Core.Logic.{_⊎_, inl, inr, ⊎-elim}
+use mathlib.Core.Logic.{_⊎_, ⊎-elim}
 use mathlib.Core.Bool.{Bool, true, false, cond, not, _&&_, _||_}
 use mathlib.Core.List.{List}
-use native.Mathlib.Nat.{le-refl, le-trans, le-of-eq}
+use native.Mathlib.Nat.{le-trans, le-of-eq}
 use native.Mathlib.Omega.{arith}
-use lib.Dec.{T, eqb, eqb→eq, T-not, not-T}
+use lib.Dec.{T, eqb, eqb→eq}
 use lib.ListN.{length, getD, set, length-set}
 use Rattle.meaning.specs.Count.{Bones, sum, count, some}
 use Rattle.meaning.specs.Tally.{Tally, Symmetric, weight}
-use Rattle.meaning.proofs.Tests.{_⇒_, imp, taut, so, _⊃_, decide, same-test, is-true, is-false, eq→eqb, ne→neqb, neqb→ne, both, left-of, right-of, or-left, or-right}
-use Rattle.meaning.proofs.Sums.{sum-ext, sum-add, sum-one, sum-zero}
+use Rattle.meaning.proofs.Tests.{_⇒_, imp, taut, so, _⊃_, decide, same-test, is-false, both, left-of, right-of, or-left, or-right}
+use Rattle.meaning.proofs.Sums.{sum-ext, sum-add, sum-one}
 use Rattle.meaning.proofs.Totals.{parts}
 use Rattle.growing.specs.Blocks.{reaches}
 use Rattle.pairs.specs.Marks.{marked}
-use Rattle.growing.specs.Grow.{with-bone, beside, degree, two-step, Undivided, joined, Added, Weighed, Spread, Measured, Tied, ByTwo, AllByTwo, Chosen, steps}
+use Rattle.growing.specs.Grow.{with-bone, beside, degree, two-step, Undivided, joined, Added, Spread, Measured, Tied, ByTwo, AllByTwo, Chosen, steps}
 use Rattle.growing.specs.Three.{want, spare, passing, ByThree}
 use Rattle.growing.proofs.Adjacency.{Closed}
 use Rattle.growing.proofs.Merging.{weight-on, closed-set}
-use Rattle.growing.proofs.Growing.{near, moved, degree-sides, reaches-parts, undivided-lone, undivided-direct, undivided-half, undivided-two-step, undivided-tied, undivided-none, two-step-least}
+use Rattle.growing.proofs.Growing.{near, moved, degree-sides, reaches-parts, undivided-direct, undivided-half, undivided-two-step, undivided-tied, undivided-none, two-step-least}
 use Rattle.growing.proofs.GrowRows.{added-most}
 use Rattle.growing.proofs.Threes.{cuts, three-least}
 

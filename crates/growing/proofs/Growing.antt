@@ -1,18 +1,18 @@
 -- Growing a set L that no light split need divide: a bone may join it where it is tied to L by k, by half of its own tally, or by paths of
 -- two. Over any symmetric tally.
 -- Assumes nothing.
-use Prim.Native.Nat.{ℕ, zero, suc, _+_, _*_, _≤_, _<_, min}
+use Prim.Native.Nat.{ℕ, zero, _+_, _*_, _≤_, _<_, min}
 use mathlib.Core.Path.{_≡_, refl, sym, _∙_, ap, ap₂, subst}
-use mathlib.Core.Logic.{_⊎_, inl, inr, ⊎-elim}
-use mathlib.Core.Bool.{Bool, true, false, cond, not, _&&_, _||_, Bool·beq}
+use mathlib.Core.Logic.{_⊎_, ⊎-elim}
+use mathlib.Core.Bool.{Bool, true, false, cond, not, _&&_, _||_}
 use native.Mathlib.Nat.{le-refl, le-trans, le-of-eq}
 use native.Mathlib.Omega.{arith}
 use lib.Dec.{T, eqb, leb, eqb→eq, leb→le, nleb→lt, T-not, not-T}
-use Rattle.meaning.specs.Count.{Bones, sum, some}
+use Rattle.meaning.specs.Count.{Bones, sum}
 use Rattle.meaning.specs.Tally.{Tally, Symmetric, total, weight}
 use Rattle.meaning.specs.Firm.{splits, firm}
-use Rattle.meaning.proofs.Tests.{_⇒_, imp, taut, so, _⊃_, decide, same-test, is-true, is-false, eq→eqb, ne→neqb, neqb→ne, both, left-of, right-of, either, or-left, or-right}
-use Rattle.meaning.proofs.Sums.{sum-ext, sum-mono, sum-add, sum-zero, sum-one, sum-swap, sum-term}
+use Rattle.meaning.proofs.Tests.{_⇒_, imp, taut, so, _⊃_, decide, same-test, is-true, is-false, eq→eqb, both, either, or-left, or-right}
+use Rattle.meaning.proofs.Sums.{sum-ext, sum-mono, sum-add, sum-zero, sum-one}
 use Rattle.meaning.proofs.Totals.{Pairs, parts, total-mono, total-parts, total-turn, total-ext}
 use Rattle.meaning.proofs.Firm.{other, weight-same, weight-inside, weight-other, splits-intro, splits-elim, splits-other, firm-intro}
 use Rattle.growing.specs.Blocks.{reaches, cross}

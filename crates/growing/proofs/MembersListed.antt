@@ -1,11 +1,11 @@
 -- The bones of a pile in order: none yet, one bone looked at, and what a bone's tally with the others comes to.
 -- Assumes nothing.
-use Prim.Native.Nat.{ℕ, zero, suc, _+_, _≤_, _<_, zero-le}
-use mathlib.Core.Path.{_≡_, refl, sym, _∙_, ap, ap₂, subst}
+use Prim.Native.Nat.{ℕ, zero, suc, _+_, _<_, zero-le}
+use mathlib.Core.Path.{_≡_, refl, sym, _∙_, ap, subst}
 use mathlib.Core.Logic.{⊎-elim}
 use mathlib.Core.Bool.{Bool, true, false, cond, not, _&&_}
 use mathlib.Core.List.{List}
-use native.Mathlib.Nat.{le-refl, le-trans, le-of-eq, not-suc-le-zero}
+use native.Mathlib.Nat.{le-refl, not-suc-le-zero}
 use native.Mathlib.Numerals.{add-one}
 use native.Mathlib.Omega.{arith}
 use lib.Dec.{T, eqb, ltb, ltb→lt, nltb→le, eqb→eq, T-not}
@@ -13,7 +13,7 @@ use lib.ListN.{length, getD, set, length-set}
 use lib.Seq.{getD-set-same, getD-set-other}
 use Rattle.meaning.specs.Count.{Bones, sum}
 use Rattle.meaning.specs.Tally.{Tally}
-use Rattle.meaning.proofs.Tests.{decide, same-test, eq→eqb, ne→neqb, neqb→ne}
+use Rattle.meaning.proofs.Tests.{decide, same-test, eq→eqb}
 use Rattle.meaning.proofs.Sums.{sum-ext, sum-next}
 use Rattle.meaning.proofs.Sets.{last-or-below}
 use Rattle.pairs.proofs.Filling.{cond-yes, cond-no}

@@ -15,7 +15,7 @@ use Rattle.meaning.proofs.Totals.{total-ext}
 use Rattle.meaning.proofs.Firm.{other, weight-other, weight-same}
 use Rattle.growing.specs.Blocks.{untaken, LightSide}
 use Rattle.pairs.specs.Marks.{marked}
-use Rattle.growing.specs.Grow.{beside, joined, LightMarks, Probed}
+use Rattle.growing.specs.Grow.{beside, joined, Probed}
 use Rattle.flowing.specs.Flow.{Ways, Carried, unmarked, Flowed}
 use Rattle.growing.specs.Listing.{Lists}
 use Rattle.growing.proofs.WaysListed.{lists-carried, lists-light}

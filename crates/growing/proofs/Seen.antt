@@ -2,7 +2,6 @@
 -- Assumes nothing.
 use Prim.Native.Nat.{ℕ, _≤_, _<_}
 use mathlib.Core.Path.{_≡_}
-use mathlib.Core.Bool.{_&&_}
 use lib.Dec.{T, leb, leb→le, le→leb}
 use Rattle.meaning.specs.Heap.{Heap, pile, stands}
 use Rattle.meaning.proofs.Tests.{both, left-of, right-of}

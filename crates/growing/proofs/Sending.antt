@@ -1,7 +1,7 @@
 -- Sending from one bone after another to those that want it: what came through is never more than what any split would cut.
 -- Assumes nothing.
 use Prim.Native.Nat.{ℕ, _+_, _*_, _-_, _≤_, _<_, _^_, min}
-use mathlib.Core.Path.{_≡_, refl, sym, _∙_, ap, ap₂, subst}
+use mathlib.Core.Path.{_≡_, refl, sym, _∙_, ap, subst}
 use mathlib.Core.Logic.{⊎-elim}
 use mathlib.Core.Bool.{Bool, true, false, cond, not, _&&_}
 use mathlib.Core.List.{List}
@@ -12,7 +12,7 @@ use lib.ListN.{length, getD, set, length-set, replicate}
 use lib.Seq.{getD-set-same, getD-set-other}
 use Rattle.meaning.specs.Count.{Bones, sum}
 use Rattle.meaning.specs.Tally.{Tally}
-use Rattle.meaning.proofs.Tests.{decide, is-true, is-false, eq→eqb, neqb→ne, both}
+use Rattle.meaning.proofs.Tests.{decide, eq→eqb, neqb→ne, both}
 use Rattle.meaning.proofs.Sums.{sum-ext, sum-mono, sum-add, sum-one, sum-next}
 use Rattle.pairs.specs.Marks.{Filled}
 use Rattle.pairs.proofs.Filling.{cond-yes, cond-no, zeros}

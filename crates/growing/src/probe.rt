@@ -1,6 +1,6 @@
 // Probing a free bone of a pile: whether tally k can be sent from it to the bones that are not free, over the pile's pairs, which ties it to
 // them; or whether the free bones that it still reaches, once no more can be sent, are a light side.
-use crate::ways::list_once;
+use crate::ways::list_ways;
 use flowing::flow::Shown;
 use flowing::flow::flow;
 ghost use mathlib.Core.Path.{_≡_};
@@ -74,7 +74,7 @@ pub(crate) fn probe(
     ensures { λ r. ⌜ Probed n (held (now (table .entry))) k (pile n (heapOf (now (names .entry))) p) p t (now (free .entry)) (now (free .exit)) (r .verdict) (r .weight) ⌝ }
     ensures { λ r. ⌜ Ready n (held (now (table .entry))) k (pile n (heapOf (now (names .entry))) p) (now (ways .exit)) (r .pairs) ⌝ }
 {
-    let pairs = list_once(table, names, n, k, p, ways, arcs, m);
+    let pairs = list_ways(table, names, n, k, p, ways, arcs, m);
     let got = probe_listed(table, names, n, k, p, t, ways, arcs, pairs, free);
     Finding {
         verdict: got.verdict,

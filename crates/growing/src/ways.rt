@@ -5,9 +5,9 @@
 use crate::row::pair;
 use pairs::numbers::bone;
 ghost use mathlib.Core.Path.{_≡_};
-ghost use Prim.Native.Nat.{_+_, _/_, _%_, _<_, _≤_, min};
+ghost use Prim.Native.Nat.{_+_, _<_, _≤_, min};
 ghost use lib.Dec.{T};
-ghost use lib.ListN.{length, set};
+ghost use lib.ListN.{set};
 ghost use Rattle.meaning.specs.Heap.{pile};
 ghost use Rattle.pairs.specs.Table.{held};
 ghost use Rattle.pairs.specs.Side.{heapOf};
@@ -23,22 +23,15 @@ fn room_of(table: &[u32; 16384], k: u32, i: usize, j: usize) -> u32
     if w < k as u64 { w as u32 } else { k }
 }
 
-// The two arcs of pair m are put before those that its ends have already. All that x has are of the pairs listed just before.
-fn put_arcs(arcs: &mut [u16; 576], m: usize, x: usize, y: usize)
-    requires { ⌜ (m < 448) × (x < 128) × (y < 128) ⌝ }
+// Pair m is listed, and its two arcs are put before those that its ends have already. All that x has are of the pairs listed just before.
+fn put_way(ways: &mut [u32; 448], arcs: &mut [u16; 576], m: usize, x: usize, y: usize, room: u32)
+    requires { ⌜ (m < 448) × (x < 128) × (y < 128) × (room < 65536) ⌝ }
+    ensures { λ r. ⌜ now (ways .exit) ≡ set (now (ways .entry)) m (wayOf x y room) ⌝ }
 {
     let arc = 2 * m;
     arcs[448 + x] = arc as u16;
     arcs[m] = arcs[448 + y];
     arcs[448 + y] = (arc + 1) as u16;
-}
-
-// Pair m is listed, and its two arcs.
-fn put_way(ways: &mut [u32; 448], arcs: &mut [u16; 576], m: usize, x: usize, y: usize, room: u32)
-    requires { ⌜ (m < 448) × (x < 128) × (y < 128) × (room < 65536) ⌝ }
-    ensures { λ r. ⌜ now (ways .exit) ≡ set (now (ways .entry)) m (wayOf x y room) ⌝ }
-{
-    put_arcs(arcs, m, x, y);
     ways[m] = x as u32 + 256 * (y as u32) + 65536 * room;
 }
 
@@ -124,8 +117,9 @@ fn list_bone(
 }
 
 // The pairs of the pile named p, of which there are as many as it gives; where it gives over 448, there are too many, or k is over 65,535,
-// and nothing is known. At first no bone has an arc: none is numbered 896 or more.
-fn list_ways(
+// and nothing is known. They are listed once: until then `known` is 450, and later what it gave. At first no bone has an arc: none is
+// numbered 896 or more.
+pub(crate) fn list_ways(
     table: &[u32; 16384],
     names: &[u8; 128],
     n: usize,
@@ -133,10 +127,15 @@ fn list_ways(
     p: usize,
     ways: &mut [u32; 448],
     arcs: &mut [u16; 576],
+    known: usize,
 ) -> usize
-    requires { ⌜ (n ≤ 128) × (length (now ways) ≡ 448) ⌝ }
+    requires { ⌜ n ≤ 128 ⌝ }
+    requires { ⌜ Ready n (held (now table)) k (pile n (heapOf (now names)) p) (now ways) known ⌝ }
     ensures { λ r. ⌜ Ready n (held (now (table .entry))) k (pile n (heapOf (now (names .entry))) p) (now (ways .exit)) r ⌝ }
 {
+    if known < 450 {
+        return known;
+    }
     if 65535 < k {
         return 449;
     }
@@ -147,25 +146,4 @@ fn list_ways(
         m = list_bone(table, names, n, most, p, i, ways, arcs, m);
     }
     m
-}
-
-// The same, where it was not done yet: then m is 450.
-pub(crate) fn list_once(
-    table: &[u32; 16384],
-    names: &[u8; 128],
-    n: usize,
-    k: u64,
-    p: usize,
-    ways: &mut [u32; 448],
-    arcs: &mut [u16; 576],
-    m: usize,
-) -> usize
-    requires { ⌜ n ≤ 128 ⌝ }
-    requires { ⌜ Ready n (held (now table)) k (pile n (heapOf (now names)) p) (now ways) m ⌝ }
-    ensures { λ r. ⌜ Ready n (held (now (table .entry))) k (pile n (heapOf (now (names .entry))) p) (now (ways .exit)) r ⌝ }
-{
-    if m < 450 {
-        return m;
-    }
-    list_ways(table, names, n, k, p, ways, arcs)
 }

@@ -1,20 +1,20 @@
 -- `growing::grow::first_light` meets its contract: the degrees of the free bones in the places before i are noted, and are k or more.
 -- Assumes nothing.
 use Prim.Native.Nat.{ℕ, zero-le, _+_, _-_, _≤_, _<_}
-use mathlib.Core.Path.{_≡_, refl, sym, _∙_, ap, subst}
+use mathlib.Core.Path.{_≡_, sym, _∙_, ap, subst}
 use mathlib.Core.Logic.{⊎-elim}
 use mathlib.Core.Bool.{not}
 use mathlib.Core.List.{List}
 use native.Mathlib.Nat.{not-suc-le-zero}
 use native.Mathlib.Omega.{arith}
-use lib.Dec.{T, T-not}
+use lib.Dec.{T}
 use lib.ListN.{length, getD, set, length-set}
 use lib.Seq.{getD-set-same}
 use Rattle.meaning.specs.Count.{Bones}
 use Rattle.meaning.proofs.Tests.{eq→eqb, ne→neqb}
 use Rattle.pairs.specs.Table.{held}
 use Rattle.pairs.specs.Marks.{marked}
-use Rattle.growing.specs.Grow.{degree, Weighed, Lone}
+use Rattle.growing.specs.Grow.{degree, Weighed}
 use Rattle.growing.specs.Members.{Members}
 use Rattle.growing.proofs.GrowEnds.{weighed-more, weighed-shut}
 use Rattle.growing.proofs.grow.first_light.Statement.{statement}

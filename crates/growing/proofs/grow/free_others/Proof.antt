@@ -1,6 +1,6 @@
 -- `growing::grow::free_others` meets its contract: after b turns the marks below b are set and counted.
 -- Assumes nothing.
-use Prim.Native.Nat.{ℕ, zero-le, _+_, _-_, _≤_}
+use Prim.Native.Nat.{ℕ, zero-le, _-_, _≤_}
 use mathlib.Core.Path.{_≡_, refl, _∙_, ap}
 use mathlib.Core.Bool.{cond}
 use native.Mathlib.Omega.{arith}

@@ -1,6 +1,6 @@
 -- `growing::grow::grow` meets its contract: a pile that stands is grown, and nothing else is touched but the marks. Assumes nothing.
 use Prim.Native.Nat.{ℕ}
-use mathlib.Core.Path.{_≡_, refl, sym, _∙_, subst}
+use mathlib.Core.Path.{refl, sym, _∙_, subst}
 use mathlib.Core.Bool.{not}
 use native.Mathlib.Omega.{arith}
 use lib.Dec.{T, eqb, T-not}

@@ -1,7 +1,7 @@
 -- `growing::grow::is_other` meets its contract, by its two tests.
 -- Assumes nothing.
 use Prim.Native.Nat.{zero-le}
-use mathlib.Core.Path.{_≡_, sym, _∙_}
+use mathlib.Core.Path.{sym, _∙_}
 use native.Mathlib.Nat.{le-refl}
 use lib.Dec.{T, eqb, not-T, T-not}
 use Rattle.meaning.specs.Heap.{pile}

@@ -2,7 +2,7 @@
 -- Assumes nothing.
 use mathlib.Core.Logic.{⊎-elim}
 use mathlib.Core.Bool.{not}
-use mathlib.Core.Path.{_≡_, sym, _∙_}
+use mathlib.Core.Path.{sym, _∙_}
 use lib.Dec.{T, eqb, not-T, T-not}
 use Rattle.meaning.specs.Heap.{pile}
 use Rattle.meaning.proofs.Tests.{eq→eqb, ne→neqb, both, left-of, right-of}

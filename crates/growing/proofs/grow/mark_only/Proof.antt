@@ -1,6 +1,6 @@
 -- `growing::grow::mark_only` meets its contract: after x turns the marks below x are set.
 -- Assumes nothing.
-use Prim.Native.Nat.{ℕ, zero-le, _-_, _≤_}
+use Prim.Native.Nat.{zero-le, _-_, _≤_}
 use mathlib.Core.Bool.{cond}
 use native.Mathlib.Omega.{arith}
 use lib.Dec.{eqb}

@@ -1,7 +1,7 @@
 -- `growing::grow::name_joined` meets its contract: after b turns the bones below b are named.
 -- Assumes nothing.
-use Prim.Native.Nat.{ℕ, zero-le, _-_, _≤_}
-use mathlib.Core.Path.{_≡_, _∙_, ap}
+use Prim.Native.Nat.{zero-le, _-_, _≤_}
+use mathlib.Core.Path.{_∙_, ap}
 use mathlib.Core.Bool.{cond}
 use native.Mathlib.Nat.{le-refl}
 use native.Mathlib.Omega.{arith}

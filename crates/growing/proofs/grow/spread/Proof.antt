@@ -1,13 +1,13 @@
 -- `growing::grow::spread` meets its contract. The invariant: the set grown so far is not divided, and it is measured.
 -- Assumes nothing.
-use Prim.Native.Nat.{ℕ, _+_, _*_, _-_, _≤_, _<_}
-use mathlib.Core.Path.{_≡_, refl, sym, subst}
+use Prim.Native.Nat.{ℕ, _-_, _≤_, _<_}
+use mathlib.Core.Path.{refl, sym, subst}
 use mathlib.Core.Bool.{false}
 use mathlib.Core.List.{List}
 use native.Mathlib.Nat.{le-refl}
 use native.Mathlib.Omega.{arith}
 use lib.Dec.{T}
-use lib.ListN.{getD, set, length-replicate}
+use lib.ListN.{set, length-replicate}
 use Rattle.meaning.specs.Count.{Bones}
 use Rattle.meaning.specs.Heap.{pile, stands}
 use Rattle.meaning.proofs.Heaps.{pile-bone}

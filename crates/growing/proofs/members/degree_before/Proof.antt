@@ -1,6 +1,6 @@
 -- `growing::members::degree_before` meets its contract: after i turns the tallies with the bones in the places before i are added.
 -- Assumes nothing.
-use Prim.Native.Nat.{ℕ, zero-le, _+_, _*_, _^_, _-_, _≤_}
+use Prim.Native.Nat.{ℕ, zero-le, _*_, _^_, _-_, _≤_}
 use mathlib.Core.Path.{_≡_, refl, _∙_, ap, ap₂}
 use mathlib.Core.Bool.{cond, not}
 use native.Mathlib.Omega.{arith}

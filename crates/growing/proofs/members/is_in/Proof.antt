@@ -1,7 +1,7 @@
 -- `growing::members::is_in` meets its contract, by whether the bone is in the pile.
 -- Assumes nothing.
 use Prim.Native.Nat.{zero-le}
-use mathlib.Core.Path.{_≡_, sym, _∙_}
+use mathlib.Core.Path.{sym, _∙_}
 use native.Mathlib.Nat.{le-refl}
 use borrow.Author.Needs.{needs}
 use lib.Dec.{not-T}

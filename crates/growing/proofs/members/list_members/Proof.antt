@@ -1,6 +1,6 @@
 -- `growing::members::list_members` meets its contract: after b turns the bones of the pile below b are listed.
 -- Assumes nothing.
-use Prim.Native.Nat.{ℕ, zero-le, _+_, _-_, _≤_}
+use Prim.Native.Nat.{zero-le, _-_, _≤_}
 use mathlib.Core.Path.{_≡_, subst}
 use native.Mathlib.Omega.{arith}
 use Rattle.meaning.specs.Heap.{pile}

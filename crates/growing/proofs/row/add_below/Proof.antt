@@ -1,7 +1,7 @@
 -- `growing::row::add_below` meets its contract: after c turns the sums below c have grown.
 -- Assumes nothing.
-use Prim.Native.Nat.{ℕ, zero-le, _+_, _-_, _≤_}
-use mathlib.Core.Path.{_≡_, subst}
+use Prim.Native.Nat.{zero-le, _+_, _-_, _≤_}
+use mathlib.Core.Path.{subst}
 use native.Mathlib.Nat.{le-refl}
 use native.Mathlib.Omega.{arith}
 use Rattle.pairs.specs.Table.{held}

@@ -1,6 +1,6 @@
 -- `growing::row::add_row` meets its contract: one part of the row after the other.
 -- Assumes nothing.
-use Prim.Native.Nat.{ℕ, zero-le}
+use Prim.Native.Nat.{zero-le}
 use native.Mathlib.Omega.{arith}
 use Rattle.growing.proofs.GrowRows.{added-join, added-room}
 use Rattle.growing.proofs.row.add_row.Statement.{statement}

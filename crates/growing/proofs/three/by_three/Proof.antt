@@ -1,15 +1,12 @@
 -- `growing::three::by_three` meets its contract: after x turns the bones below x have sent what they could.
 -- Assumes nothing.
-use Prim.Native.Nat.{ℕ, zero-le, _+_, _-_, _≤_, _<_}
-use mathlib.Core.Path.{_≡_, subst}
+use Prim.Native.Nat.{ℕ, zero-le, _-_, _≤_}
 use native.Mathlib.Omega.{arith}
 use lib.Dec.{leb, leb→le}
 use lib.ListN.{length-replicate}
-use Rattle.meaning.specs.Count.{Bones, sum}
 use Rattle.meaning.proofs.Tests.{holds}
 use Rattle.pairs.specs.Table.{held}
 use Rattle.pairs.specs.Marks.{marked}
-use Rattle.growing.specs.Three.{ByThree}
 use Rattle.growing.proofs.Sending.{Passed, passed-start, passed-next, passed-end}
 use Rattle.growing.proofs.three.by_three.Statement.{statement}
 use Rattle.growing.proofs.three.by_three.Tie as tie

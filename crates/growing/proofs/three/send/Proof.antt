@@ -1,7 +1,6 @@
 -- `growing::three::send` meets its contract: after y turns the bones below y were given their part.
 -- Assumes nothing.
-use Prim.Native.Nat.{ℕ, zero-le, _+_, _-_, _≤_, _<_}
-use mathlib.Core.Path.{_≡_}
+use Prim.Native.Nat.{zero-le, _-_, _≤_}
 use native.Mathlib.Omega.{arith}
 use Rattle.pairs.specs.Table.{held}
 use Rattle.growing.proofs.Sending.{Sending, sending-start, sending-next, sending-end}

@@ -1,7 +1,6 @@
 -- `growing::three::want_of` meets its contract, by whether x is free and is not t.
 -- Assumes nothing.
-use Prim.Native.Nat.{ℕ, zero-le, _-_, _≤_, min}
-use mathlib.Core.Path.{_≡_, sym, subst}
+use Prim.Native.Nat.{_-_, min}
 use mathlib.Core.Bool.{not, _&&_}
 use native.Mathlib.Omega.{arith}
 use borrow.Author.Needs.{needs}

@@ -1,7 +1,6 @@
 -- `growing::three::wants_of` meets its contract: after x turns the bones below x have what they want.
 -- Assumes nothing.
-use Prim.Native.Nat.{ℕ, zero-le, _-_, _≤_}
-use mathlib.Core.Path.{_≡_}
+use Prim.Native.Nat.{zero-le, _-_, _≤_}
 use native.Mathlib.Omega.{arith}
 use Rattle.pairs.specs.Table.{held}
 use Rattle.pairs.specs.Marks.{marked, Filled}

@@ -1,8 +1,7 @@
 -- `growing::tied::nearest` meets its contract: the bone so far is free. Assumes nothing.
-use Prim.Native.Nat.{ℕ, _≤_, _<_, _-_, zero-le}
+use Prim.Native.Nat.{_≤_, _<_, _-_, zero-le}
 use native.Mathlib.Omega.{arith}
 use lib.Dec.{T}
-use borrow.Author.Needs.{needs}
 use Rattle.pairs.specs.Marks.{marked}
 use Rattle.growing.proofs.tied.nearest.Statement.{statement}
 use Rattle.growing.proofs.tied.nearest.Tie as tie

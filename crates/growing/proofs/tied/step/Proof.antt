@@ -1,6 +1,6 @@
 -- `growing::tied::step` meets its contract, by whether x is free and which of the two is less.
 -- Assumes nothing.
-use Prim.Native.Nat.{ℕ, zero-le, _≤_, min}
+use Prim.Native.Nat.{zero-le, min}
 use native.Mathlib.Omega.{arith}
 use lib.ListN.{getD}
 use Rattle.meaning.proofs.Tests.{eq→eqb, ne→neqb}

@@ -1,11 +1,10 @@
 -- `growing::tied::tied` meets its contract, by the rule that applies to the bone returned.
 -- Assumes nothing.
-use Prim.Native.Nat.{ℕ, zero-le, _-_, _≤_}
-use mathlib.Core.Logic.{inl, inr, ⊎-elim}
+use Prim.Native.Nat.{zero-le, _-_, _≤_}
+use mathlib.Core.Logic.{inl, inr}
 use native.Mathlib.Omega.{arith}
 use Rattle.meaning.proofs.Tests.{eq→eqb}
 use Rattle.pairs.specs.Marks.{marked}
-use Rattle.growing.specs.Grow.{Tied}
 use Rattle.growing.proofs.tied.tied.Statement.{statement}
 use Rattle.growing.proofs.tied.tied.Tie as tie
 use Rattle.growing.proofs.tied.tied.Reads as reads

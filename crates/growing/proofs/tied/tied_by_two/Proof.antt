@@ -1,12 +1,10 @@
 -- `growing::tied::tied_by_two` meets its contract, by what the paths of two of the bone returned come to.
 -- Assumes nothing.
-use Prim.Native.Nat.{ℕ, zero-le, _-_, _≤_}
-use mathlib.Core.Path.{_≡_, subst}
+use Prim.Native.Nat.{zero-le, _-_, _≤_}
 use native.Mathlib.Nat.{le-trans}
 use native.Mathlib.Omega.{arith}
 use Rattle.meaning.proofs.Tests.{eq→eqb}
 use Rattle.pairs.specs.Marks.{marked}
-use Rattle.growing.specs.Grow.{ByTwo}
 use Rattle.growing.proofs.tied.tied_by_two.Statement.{statement}
 use Rattle.growing.proofs.tied.tied_by_two.Tie as tie
 use Rattle.growing.proofs.tied.tied_by_two.Reads as reads

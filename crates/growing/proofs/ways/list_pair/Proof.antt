@@ -44,7 +44,7 @@ returns c =
     (held-symmetric (s .args .table .now))
     (s .pre .1 .0)
     (pile-intro (s .args .n) (heapOf (s .args .names .now)) (s .args .p) (s .args .j) (omega (arith, s .pre .0))
-    (sym (c .before .before .before .before .before .bone .ensures .0) ∙ c .before .before .before .before .if2 .taken))
+    (omega (arith, c .before .before .before .before .before .bone .ensures .0, c .before .before .before .before .if2 .taken)))
     (omega (arith, s .pre .0))
     (omega (arith, s .pre .0))
     (c .before .before .before .if3 .taken)

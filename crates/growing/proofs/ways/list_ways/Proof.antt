@@ -12,20 +12,23 @@ use Rattle.growing.proofs.ways.list_ways.Statement.{statement}
 use Rattle.growing.proofs.ways.list_ways.Tie as tie
 
 abbrev Inv-loop : tie.InvT-loop
-Inv-loop table names n k p ways₀ arcs₀ most m₀ i₀ ways arcs m i =
+Inv-loop table names n k p ways₀ arcs₀ known most m₀ i₀ ways arcs m i =
     (i ≤ n) × Listed (held table) k (pile n (heapOf names) p) ways m i 0
 
 abbrev μ-loop : tie.MeasureT-loop
-μ-loop table names n k p ways₀ arcs₀ most m₀ i₀ ways arcs m i = n - i
+μ-loop table names n k p ways₀ arcs₀ known most m₀ i₀ ways arcs m i = n - i
 
 returns : tie.Need-returns Inv-loop μ-loop
-returns c = ready-none (c .before .pre .1) (omega arith)
+returns c = c .before .pre .1
+
+returns-2 : tie.Need-returns-2 Inv-loop μ-loop
+returns-2 c = ready-none (c .before .before .pre .1 .long) (omega arith)
 
 cast-most : tie.Need-cast-most Inv-loop μ-loop
 cast-most c = omega arith
 
 loop-holds : tie.Need-loop-holds Inv-loop μ-loop
-loop-holds c = (zero-le, listed-start _ _ _ _ (c .before .before .pre .1))
+loop-holds c = (zero-le, listed-start _ _ _ _ (c .before .before .before .pre .1 .long))
 
 list-bone-requires : tie.Need-list-bone-requires Inv-loop μ-loop
 list-bone-requires c κs = ((omega arith, omega arith, omega arith), c .before .before .before .loop .inv .1)
@@ -39,10 +42,10 @@ loop-less c = omega arith
 loop-again : tie.Need-loop-again Inv-loop μ-loop
 loop-again c = (omega arith, c .list-bone .ensures)
 
-returns-2 : tie.Need-returns-2 Inv-loop μ-loop
-returns-2 c =
+returns-3 : tie.Need-returns-3 Inv-loop μ-loop
+returns-3 c =
     let l = c .before .loop in
-    let a = c .before .before .before .before .args in
+    let a = c .before .before .before .before .before .args in
     let S = pile (a .n) (heapOf (a .names .now)) (a .p) in
     let all : l .i ≡ a .n = omega arith in
     let so : Listed (held (a .table .now)) (a .k) S (l .ways) (l .m) (a .n) 0 = subst (λ (i : ℕ). Listed (held (a .table .now)) (a .k) S (l .ways) (l .m) i 0) all (l .inv .1) in
@@ -55,10 +58,11 @@ list-ways-spec =
     Inv-loop
     μ-loop
     returns
+    returns-2
     cast-most
     loop-holds
     list-bone-requires
     add-i
     loop-less
     loop-again
-    returns-2)
+    returns-3)
