@@ -14,11 +14,6 @@ use Rattle.meaning.proofs.Sums.{sum-next}
 use Rattle.growing.proofs.GrowRows.{sum-part, beside-other, beside-self}
 use Rattle.growing.proofs.tied.steps_of.Statement.{statement}
 use Rattle.growing.proofs.tied.steps_of.Tie as tie
-use Rattle.growing.proofs.tied.steps_of.Reads as reads
-use Rattle.growing.proofs.tied.steps_of.Lts as lts
-use Rattle.growing.proofs.row.pair.Reads as pair-reads
-use Rattle.growing.proofs.tied.step.Reads as step-reads
-use Rattle.growing.proofs.tied.steps_below.Reads as steps-below-reads
 
 abbrev Inv-loop : tie.InvT-loop
 Inv-loop table free ties n k v total₀ x₀ total x = (v + 1 ≤ x) × (x ≤ n) × (total ≡ getD ties v 0 + sum x (λ i. cond (beside (marked free) v i) (min (held table v i) (getD ties i 0)) 0)) × (total ≤ 2 ^ 40 + x * 2 ^ 32)

@@ -7,9 +7,6 @@ use Rattle.meaning.proofs.Tests.{eq→eqb}
 use Rattle.pairs.specs.Marks.{marked}
 use Rattle.growing.proofs.tied.tied_by_two.Statement.{statement}
 use Rattle.growing.proofs.tied.tied_by_two.Tie as tie
-use Rattle.growing.proofs.tied.tied_by_two.Reads as reads
-use Rattle.growing.proofs.tied.tied_by_two.Lts as lts
-use Rattle.growing.proofs.tied.steps_of.Reads as steps-of-reads
 
 abbrev Inv-loop : tie.InvT-loop
 Inv-loop table free ties n k v₀ v = v ≤ n
