@@ -50,7 +50,7 @@ element-write-wants : tie.Need-element-write-wants Inv-loop μ-loop
 element-write-wants c = omega arith
 
 sub-left : tie.Need-sub-left Inv-loop μ-loop
-sub-left c = c .before .part .ensures .0
+sub-left c = omega (arith, c .before .part .ensures .0)
 
 add-sum : tie.Need-add-sum Inv-loop μ-loop
 add-sum c =
