@@ -9,22 +9,16 @@ use Rattle.pairs.specs.Table.{added}
 use Rattle.lent.proofs.records.add_record.Statement.{statement}
 use Rattle.lent.proofs.records.add_record.Tie as tie
 
-returns : tie.Need-returns
-returns c = absurd (omega arith)
-
-returns-2 : tie.Need-returns-2
-returns-2 c = absurd (omega arith)
-
 add-within-requires : tie.Need-add-within-requires
 add-within-requires c κs = search needs
 
-returns-3 : tie.Need-returns-3
-returns-3 c =
-    let a = c .before .before .before .before .args in
+returns : tie.Need-returns
+returns c =
+    let a = c .before .before .args in
     let one : a .l .a % 128 ≡ a .l .a = omega arith in
     let two : a .l .b % 128 ≡ a .l .b = omega arith in
     c .add-within .ensures
     ∙ ap₂ (λ (x y : ℕ). added (now (a .table)) (record { a = x; b = y; tally = a .l .tally })) one two
 
 pub add-record-spec : {M : Type 1} → statement M
-add-record-spec = tie.close (tie.spec returns returns-2 add-within-requires returns-3)
+add-record-spec = tie.close (tie.spec add-within-requires returns)

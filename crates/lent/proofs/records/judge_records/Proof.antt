@@ -50,7 +50,7 @@ use Rattle.meaning.specs.declared.Judged.the-variants.{Accepted}
 use Rattle.meaning.specs.Judge.{first as first-of}
 use Rattle.pairs.specs.Links.{linkRows, countRows, tableRows}
 use Rattle.lent.specs.Records.{noLink, firstOf, upTo, refusedLinks, toJudge}
-use Rattle.lent.proofs.RecordsRows.{soFar, soFar-none, soFar-next, judged-all, toJudge-most, upTo-few, upTo-4096, all-but, few-bones}
+use Rattle.lent.proofs.RecordsRows.{soFar, soFar-none, soFar-next, judged-all, toJudge-most, upTo-few, upTo-most, upTo-4096, all-but, few-bones}
 use Rattle.lent.proofs.RecordsLink.{R, link, val, made, typed, J, judged, told, IsJudged, told-so, typed-judged, made-judged, slice}
 use Rattle.lent.proofs.RecordsCalls.{calls-plain, calls-over}
 use Rattle.lent.proofs.RecordsRead.{Own, LinkAt, calls-link-at}
@@ -132,7 +132,7 @@ module _ {M : Type 1} (𝓤 : URA M) (H : Heap 𝓤) (A : Atoms 𝓤) (W : Given
       owned ! u64 (Is u64) (uint-makes 𝓤 H A W w64) n (vint w64 n ∷ []) (refl, gn) $ fjoin ! $ frame ! $ owned ! J (Is J) (made-judged 𝓤 H A W) r _ is $ done !
 
   -- the call of `refused_links` with m bones fewer than 128 on the first i links: what it asks
-  goes-refused : (m i : ℕ) → m < 2 ^ 32 → i < 2 ^ 64 → (m ≤ 128) × (i ≤ 4096) → ent 𝓤 (⋆ 𝓤 H A (‵ (Own κ x) ∷ ‵ (flft κ q) ∷ [])) (Refused 𝓤 H A mem run .pre (((κ, tt), (q, tt), tt, (m, (x, (i, tt))), (vint w32 m ∷ [], (v ∷ [], (vint w64 i ∷ [], tt)))), tt))
+  goes-refused : (m i : ℕ) → m < 2 ^ 32 → i < 2 ^ 64 → (m ≤ 128) × (i ≤ length ys) × (i ≤ 4096) → ent 𝓤 (⋆ 𝓤 H A (‵ (Own κ x) ∷ ‵ (flft κ q) ∷ [])) (Refused 𝓤 H A mem run .pre (((κ, tt), (q, tt), tt, (m, (x, (i, tt))), (vint w32 m ∷ [], (v ∷ [], (vint w64 i ∷ [], tt)))), tt))
   goes-refused m i gm gi few =
       qed W (‵ (Own κ x) ∷ ‵ (flft κ q) ∷ []) ∵ says ! few $ nothing ! $ move ! (2 ∷ 0 ∷ []) $ join ! $ frame ! $
       nothing ! $ owned ! usize (Is usize) (uint-makes 𝓤 H A W w64) i (vint w64 i ∷ []) (refl, gi) $ fjoin ! $ move ! (1 ∷ 0 ∷ []) $ fjoin ! $ owned ! u32 (Is u32) (uint-makes 𝓤 H A W w32) m (vint w32 m ∷ []) (refl, gm) $ fjoin ! $ done !
@@ -239,7 +239,7 @@ module _ {M : Type 1} (𝓤 : URA M) (H : Heap 𝓤) (A : Atoms 𝓤) (W : Given
         land ! (from ! (stop !)) (init ! 6 refl (tt, record { fits = fm .1 })) $ rewrite ! 6 (λ (u : ℕ). ‵ (fat fullShare (tyInt w32) l₁₀ 0 (vint w32 u))) em refl $
         calls-over (ref.signature .params) (ref.ended .kept) u32 (vint w32) (uint-tells w32) ! (fmOf 𝓤 H (W .laws) 𝓣) (ref.clauses 𝓤 H A mem run) known-refused (ShrSlice (named 0) κ R) (shr-slice-copy 𝓤 H A W (named 0) κ R) x (slice-vals x)
         (128 - upTo c n, (x, (upTo c (length ys), tt))) (vint w32 (128 - upTo c n) ∷ [], (v ∷ [], (vint w64 (upTo c (length ys)) ∷ [], tt))) tt
-        (goes-refused (128 - upTo c n) (upTo c (length ys)) (subst (λ (u : ℕ). u < 2 ^ 32) em (fm .1)) (subst (λ (u : ℕ). u < 2 ^ 64) ea (fa .1)) (omega arith, upTo-4096 n k c ys ec))
+        (goes-refused (128 - upTo c n) (upTo c (length ys)) (subst (λ (u : ℕ). u < 2 ^ 32) em (fm .1)) (subst (λ (u : ℕ). u < 2 ^ 64) ea (fa .1)) (omega arith, upTo-most c (length ys), upTo-4096 n k c ys ec))
         (λ r. r ≡ refusedLinks (128 - (128 - upTo c n)) ys (upTo c (length ys))) (λ r ws. id⊢ 𝓤 _)
         (and-then ! (load ! (from ! (stop !)) (look ! 6 refl)) (and-then ! (load ! (from ! (stop !)) (look ! 20 refl)) (and-then ! (load ! (from ! (stop !)) (look ! 16 refl)) (no-more !)))) (λ r told-r fr.
         let er : r ≡ refusedLinks (upTo c n) ys (upTo c (length ys)) = told-r ∙ ap (λ (u : ℕ). refusedLinks u ys (upTo c (length ys))) (all-but n k c ys ec) in

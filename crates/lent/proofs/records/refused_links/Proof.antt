@@ -4,7 +4,7 @@
 -- Assumes nothing.
 use mathlib.Core.Path.{_≡_, refl, sym, subst, ap}
 use Prim.Native.Nat.{ℕ, _+_, _-_, _≤_, _<_, _^_, zero-le}
-use native.Mathlib.Nat.{le-antisymm, lt-of-le-of-lt}
+use native.Mathlib.Nat.{le-antisymm, lt-of-le-of-lt, lt-of-lt-of-le}
 use native.Mathlib.Numerals.{add-one-le, add-one-dec}
 use native.Mathlib.Omega.{arith}
 use mathlib.Core.WellFounded.{WellFounded, InvImage·wf}
@@ -48,10 +48,10 @@ use Rattle.lent.specs.Records.{noLink, refusedOne, refusedLinks}
 use Rattle.lent.proofs.RecordsRows.{refused-next, refused-most}
 use Rattle.lent.proofs.RecordsLink.{R, link, val, made, typed, slice}
 use Rattle.lent.proofs.RecordsCalls.{calls-plain}
-use Rattle.lent.proofs.RecordsRead.{Own, LinkAt, calls-link-at}
-use Rattle.lent.proofs.records.link_at.Symbol as at-def
-use Rattle.lent.proofs.records.link_at.Symbol.{name as #link-at}
-use Rattle.lent.proofs.records.link_at.Met as at-thm
+use Rattle.lent.proofs.RecordsRead.{Own, LinkOf, calls-link-of}
+use Rattle.lent.proofs.records.link_of.Symbol as at-def
+use Rattle.lent.proofs.records.link_of.Symbol.{name as #link-of}
+use Rattle.lent.proofs.records.link_of.Met as at-thm
 use Rattle.lent.proofs.records.refused_one as one
 use Rattle.lent.proofs.records.refused_one.Symbol as one-def
 use Rattle.lent.proofs.records.refused_one.Symbol.{name as #refused-one}
@@ -70,7 +70,7 @@ module _ {M : Type 1} (𝓤 : URA M) (H : Heap 𝓤) (A : Atoms 𝓤) (mem : Mem
   One = tripleOf 𝓤 H A one.signature (one.spec 𝓤 H A mem run)
 
 module _ {M : Type 1} (𝓤 : URA M) (H : Heap 𝓤) (A : Atoms 𝓤) (W : Given 𝓤 H A) (mem : Memory → SProp 𝓤) (run : Routine → Fun 𝓤) (κ : Lft) (q : Share) (fewer : ℕ) (x : RefT (List Link)) (count : ℕ)
-    (gf : fewer < 2 ^ 32) (room : Room R (length (x .now))) (gc : count < 2 ^ 64) (low : fewer ≤ 128) (few : count ≤ 4096) where
+    (gf : fewer < 2 ^ 32) (room : Room R (length (x .now))) (gc : count < 2 ^ 64) (low : fewer ≤ 128) (held-all : count ≤ length (x .now)) (few : count ≤ 4096) where
   -- the bones that the links are judged among
   abbrev n : ℕ
   n = 128 - fewer
@@ -97,7 +97,7 @@ module _ {M : Type 1} (𝓤 : URA M) (H : Heap 𝓤) (A : Atoms 𝓤) (W : Given
       nothing ! $ move ! (2 ∷ 0 ∷ []) $ join ! $ frame ! $ nothing ! $ owned ! usize (Is usize) (uint-makes 𝓤 H A W w64) count (vint w64 count ∷ []) (refl, gc) $ fjoin ! $ move ! (1 ∷ 0 ∷ []) $ fjoin ! $
       owned ! u32 (Is u32) (uint-makes 𝓤 H A W w32) fewer (vint w32 fewer ∷ []) (refl, gf) $ fjoin ! $ frame ! $ owned ! u32 (Is u32) (uint-makes 𝓤 H A W w32) (refusedLinks n ys i) _ (refl, refused-fits i h) $ done !
 
-  module _ (𝓣 : Tables 𝓤 H) (known-at : Triple 𝓤 (𝓣 .C #link-at) (LinkAt 𝓤 H A mem run)) (known-one : Triple 𝓤 (𝓣 .C #refused-one) (One 𝓤 H A mem run)) where
+  module _ (𝓣 : Tables 𝓤 H) (known-at : Triple 𝓤 (𝓣 .C #link-of) (LinkOf 𝓤 H A mem run)) (known-one : Triple 𝓤 (𝓣 .C #refused-one) (One 𝓤 H A mem run)) where
     module _ (l₀ l₁ l₂ l₃ l₄ l₅ l₆ l₇ l₈ : ℕ) where
       abbrev En : Env 𝓤 H
       En = (tyInt w32, l₀) ∷ (tyInt w32, l₁) ∷ (slice imm, l₂) ∷ (tyInt w64, l₃) ∷ (tyInt w32, l₄) ∷ (tyInt w64, l₅) ∷ (tyBool, l₆) ∷ (tyInt w32, l₇) ∷ (link, l₈) ∷ []
@@ -124,7 +124,7 @@ module _ {M : Type 1} (𝓤 : URA M) (H : Heap 𝓤) (A : Atoms 𝓤) (W : Given
       turns i true e =
           assigns ! (bin ! (load ! (from ! (stop !)) (look ! 8 refl)) (load ! (from ! (stop !)) (look ! 12 refl)) tt) (from ! (stop !)) (init ! 6 refl (tt, tt)) $
           rewrite ! 6 (λ (t : Bool). ‵ (fat fullShare tyBool l₆ 0 (vbool t))) e refl $ stays ! (load ! (from ! (stop !)) (look ! 6 refl)) $
-          calls-link-at ! mem run (fmOf 𝓤 H (W .laws) 𝓣) known-at x (i .0) (lt-of-le-of-lt (i .1) gc) (and-then ! (load ! (from ! (stop !)) (look ! 14 refl)) (and-then ! (load ! (from ! (stop !)) (look ! 8 refl)) (no-more !))) (λ is.
+          calls-link-of ! mem run (fmOf 𝓤 H (W .laws) 𝓣) known-at x (i .0) (lt-of-lt-of-le less held-all) (lt-of-le-of-lt (i .1) gc) (and-then ! (load ! (from ! (stop !)) (look ! 14 refl)) (and-then ! (load ! (from ! (stop !)) (look ! 8 refl)) (no-more !))) (λ is.
           land ! (from ! (stop !)) (init ! 2 refl (typed 𝓤 H A W _ is)) $
           calls-plain (one.signature .params) (one.ended .kept) u32 (vint w32) (uint-tells w32) ! (fmOf 𝓤 H (W .laws) 𝓣) (one.clauses 𝓤 H A mem run) known-one
           (fewer, (getD ys (i .0) noLink, tt)) (vint w32 fewer ∷ [], (val (getD ys (i .0) noLink) ∷ [], tt)) tt (uint-makes 𝓤 H A W w32, (made 𝓤 H A W, tt)) ((refl, gf), (is, tt))
@@ -176,6 +176,6 @@ refused-links-spec 𝓤 H 𝓜 𝓖 𝓡 =
     (walk-meets 𝓤 H (𝓖 .A) f.ended stayed W (goes-none 𝓤 H (𝓖 .A) W 1 (λ _. u32) yes (λ κs x f. refl), (goes-none-slice 𝓤 H (𝓖 .A) W 1 (0 ∷ []) tt (plain (λ _. R)) yes, (goes-none 𝓤 H (𝓖 .A) W 1 (λ _. usize) yes (λ κs x f. refl), tt)))
     (f.clauses 𝓤 H (𝓖 .A) (𝓜 .mem) (𝓡 .run)) (WpFn 𝓤 H (𝓣 .C) (𝓣 .Λ) code.function) (WpFn-mono 𝓤 H (W .laws) 𝓣 code.function)
     (walked 𝓤 H (𝓖 .A) f.ended stayed (f.clauses 𝓤 H (𝓖 .A) (𝓜 .mem) (𝓡 .run)) (WpFn 𝓤 H (𝓣 .C) (𝓣 .Λ) code.function) (λ κs. (uint-vals w32, (slice-vals, (uint-vals w64, tt)))) (λ κs. (uint-tells w32, (shr-slice-tells (named 0) (κs .0) R, (uint-tells w64, tt))))
-    (λ κs qs bounds a g are. needs 𝓤 _ _ (λ asked. walk 𝓤 H (𝓖 .A) W (𝓜 .mem) (𝓡 .run) (κs .0) (qs .0) (a .0) (a .1 .0) (a .1 .1 .0) (are .0 .1) (are .1 .0 .0 .1) (are .1 .1 .0 .1) (asked .0) (asked .1) 𝓣
-    (cited 𝓤 H (LinkAt 𝓤 H (𝓖 .A) (𝓜 .mem) (𝓡 .run)) 𝓜 𝓡 code.env #link-at at-def.routine code.calls-lent·records·link-at (at-thm.met 𝓤 H 𝓜 𝓖 𝓡))
+    (λ κs qs bounds a g are. needs 𝓤 _ _ (λ asked. walk 𝓤 H (𝓖 .A) W (𝓜 .mem) (𝓡 .run) (κs .0) (qs .0) (a .0) (a .1 .0) (a .1 .1 .0) (are .0 .1) (are .1 .0 .0 .1) (are .1 .1 .0 .1) (asked .0) (asked .1) (asked .2) 𝓣
+    (cited 𝓤 H (LinkOf 𝓤 H (𝓖 .A) (𝓜 .mem) (𝓡 .run)) 𝓜 𝓡 code.env #link-of at-def.routine code.calls-lent·records·link-of (at-thm.met 𝓤 H 𝓜 𝓖 𝓡))
     (cited 𝓤 H (One 𝓤 H (𝓖 .A) (𝓜 .mem) (𝓡 .run)) 𝓜 𝓡 code.env #refused-one one-def.routine code.calls-lent·records·refused-one (one-thm.met 𝓤 H 𝓜 𝓖 𝓡))))))
