@@ -1,4 +1,5 @@
-//! Times the grouping of the library beside a plain implementation, on lists of many families, and the longest text read and written.
+//! Times the grouping of the library beside a plain implementation, on lists of many families, over link records beside bytes, and the longest text read
+//! and written.
 //! See bench/README.md.
 
 mod climb;

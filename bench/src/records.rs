@@ -6,14 +6,37 @@ use std::time::{Duration, Instant};
 /// n, k, links, record, labels and space as `bones_grouping` takes them, and how many times to group; gives the number of groups.
 type Call = unsafe extern "C" fn(u64, u64, *const u8, usize, *const u8, usize, *mut u8, usize, *mut u8, usize, u32) -> u32;
 
-#[rustfmt::skip]
 extern "C" {
-    fn bytes_groups(n: u64, k: u64, links: *const u8, links_length: usize, record: *const u8, record_length: usize, labels: *mut u8, labels_length: usize, space: *mut u8, space_length: usize, times: u32) -> u32;
-    fn records_groups(n: u64, k: u64, links: *const u8, links_length: usize, record: *const u8, record_length: usize, labels: *mut u8, labels_length: usize, space: *mut u8, space_length: usize, times: u32) -> u32;
+    fn bytes_groups(
+        n: u64,
+        k: u64,
+        links: *const u8,
+        links_length: usize,
+        record: *const u8,
+        record_length: usize,
+        labels: *mut u8,
+        labels_length: usize,
+        space: *mut u8,
+        space_length: usize,
+        times: u32,
+    ) -> u32;
+    fn records_groups(
+        n: u64,
+        k: u64,
+        links: *const u8,
+        links_length: usize,
+        record: *const u8,
+        record_length: usize,
+        labels: *mut u8,
+        labels_length: usize,
+        space: *mut u8,
+        space_length: usize,
+        times: u32,
+    ) -> u32;
 }
 
-const BATCH: Duration = Duration::from_micros(400);
-const BATCHES: usize = 15;
+const BATCH: Duration = Duration::from_micros(200);
+const BATCHES: usize = 41;
 
 /// One list, and nanoseconds a call of each form.
 struct Both<'a> {

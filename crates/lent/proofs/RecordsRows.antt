@@ -1,21 +1,23 @@
 -- Laws of going through a run of links one after the other: what judging and adding the first links comes to, and one link more.
 -- Assumes nothing.
-use Prim.Native.Nat.{ℕ, zero, suc, _+_, _<_, _≤_}
+use Prim.Native.Nat.{ℕ, zero, suc, _+_, _-_, _<_, _≤_}
 use mathlib.Core.Path.{_≡_, refl, sym, _∙_, ap, subst}
-use mathlib.Core.Bool.{true}
+use mathlib.Core.Bool.{Bool, true, false, cond, _||_}
 use mathlib.Core.List.{List, [], _∷_, _++_}
 use native.Mathlib.Nat.{zero-add, add-zero, add-suc, suc-add, le-of-lt, not-suc-le-zero, le-of-suc-le-suc}
 use native.Mathlib.Numerals.{add-one}
 use native.Mathlib.Omega.{arith}
+use borrow.Author.Tests.{eqb-true, le-leb, lt-leb, eq-eqb, ne-eqb}
+use lib.Dec.{eqb, leb}
 use lib.ListN.{length, getD, take}
 use lib.Seq.{take-suc, take-length, length-take-le, getD-take}
 use Rattle.meaning.specs.declared.Link.{Link}
 use Rattle.meaning.specs.declared.Judged.{Judged}
 use Rattle.meaning.specs.declared.Judged.the-variants.{Accepted, Refused}
-use Rattle.meaning.specs.Judge.{first}
+use Rattle.meaning.specs.Judge.{refuse, first}
 use Rattle.pairs.specs.Links.{linkRows, linksRows, countRows, tableRows}
 use Rattle.pairs.specs.Table.{added, tallied, filled}
-use Rattle.lent.specs.Records.{noLink, firstOf, upTo}
+use Rattle.lent.specs.Records.{noLink, firstOf, upTo, refusedOne, refusedLinks, toJudge}
 use Rattle.pairs.proofs.TableAdds.{tallied-append}
 use Rattle.pairs.proofs.LinksRows.{counts-accepted, Proper, Propers, links-accepted, links-proper, propers-more, table-counted, table-proper}
 
@@ -103,6 +105,117 @@ pub upTo-most : (j : Judged) (count : ℕ) → upTo j count ≤ count
 unfolding upTo
 upTo-most Accepted count = omega arith
 upTo-most (Refused number place) count = omega arith
+
+-- whether a link is counted as refused, test by test
+module _ (n : ℕ) (l : Link) where
+  pub one-first-end : n ≤ l .a → 1 ≡ refusedOne n l
+  unfolding refusedOne
+  one-first-end p = rw (le-leb n (l .a) p)
+
+  pub one-second-end : l .a < n → n ≤ l .b → 1 ≡ refusedOne n l
+  unfolding refusedOne
+  one-second-end p q = rw (lt-leb n (l .a) p, le-leb n (l .b) q)
+
+  pub one-same-end : l .a < n → l .b < n → l .a ≡ l .b → 1 ≡ refusedOne n l
+  unfolding refusedOne
+  one-same-end p q r = rw (lt-leb n (l .a) p, lt-leb n (l .b) q, eq-eqb (l .a) (l .b) r)
+
+  pub one-no-tally : l .a < n → l .b < n → (l .a ≡ l .b → ⊥) → l .tally ≡ 0 → 1 ≡ refusedOne n l
+  unfolding refusedOne
+  one-no-tally p q r s = rw (lt-leb n (l .a) p, lt-leb n (l .b) q, ne-eqb (l .a) (l .b) r, eq-eqb (l .tally) 0 s)
+
+  pub one-not : l .a < n → l .b < n → (l .a ≡ l .b → ⊥) → (l .tally ≡ 0 → ⊥) → 0 ≡ refusedOne n l
+  unfolding refusedOne
+  one-not p q r s = rw (lt-leb n (l .a) p, lt-leb n (l .b) q, ne-eqb (l .a) (l .b) r, ne-eqb (l .tally) 0 s)
+
+pub toJudge-none : (refused count : ℕ) → refused ≡ 0 → 0 ≡ toJudge refused count
+unfolding toJudge
+toJudge-none refused count e = rw (eq-eqb refused 0 e)
+
+pub toJudge-some : (refused count : ℕ) → (refused ≡ 0 → ⊥) → count ≡ toJudge refused count
+unfolding toJudge
+toJudge-some refused count e = rw (ne-eqb refused 0 e)
+
+-- counting the refused links of a run: one more, and never more than there are
+pub refused-next : (n : ℕ) (links : List Link) (i : ℕ) → refusedLinks n links i + refusedOne n (getD links i noLink) ≡ refusedLinks n links (i + 1)
+unfolding refusedLinks
+refused-next n links i = ap (refusedLinks n links) (sym (add-one i))
+
+one-most : (p q r s : Bool) → cond p 1 (cond q 1 (cond r 1 (cond s 1 0))) ≤ 1
+one-most true q r s = omega arith
+one-most false true r s = omega arith
+one-most false false true s = omega arith
+one-most false false false true = omega arith
+one-most false false false false = omega arith
+
+pub refused-most : (n : ℕ) (links : List Link) (i : ℕ) → refusedLinks n links i ≤ i
+unfolding refusedLinks refusedOne
+refused-most n links zero = omega arith
+refused-most n links (suc i) = let l = getD links i noLink in omega (arith, refused-most n links i, one-most (leb n (l .a)) (leb n (l .b)) (eqb (l .a) (l .b)) (eqb (l .tally) 0))
+
+-- a link that is not counted passes
+rows-pass : (p q r s : Bool) (i : ℕ) → _≡_ {A = ℕ} (cond p 1 (cond q 1 (cond r 1 (cond s 1 0)))) 0 → first (refuse (p || q) 4 i ∷ refuse r 5 i ∷ refuse s 6 i ∷ []) ≡ Accepted
+unfolding refuse first
+rows-pass true q r s i e = absurd (omega (arith, e))
+rows-pass false true r s i e = absurd (omega (arith, e))
+rows-pass false false true s i e = absurd (omega (arith, e))
+rows-pass false false false true i e = absurd (omega (arith, e))
+rows-pass false false false false i e = refl
+
+link-passes : (n i : ℕ) (l : Link) → refusedOne n l ≡ 0 → first (linkRows n i l) ≡ Accepted
+unfolding refusedOne linkRows
+link-passes n i l e = rows-pass (leb n (l .a)) (leb n (l .b)) (eqb (l .a) (l .b)) (eqb (l .tally) 0) i e
+
+-- where none is counted, all that were gone through pass
+all-pass : (n : ℕ) (links : List Link) (i : ℕ) → i ≤ length links → refusedLinks n links i ≡ 0 → Accepted ≡ soFar n Accepted links i
+unfolding refusedLinks firstOf
+all-pass n links zero h e = soFar-none n Accepted links
+all-pass n links (suc i) h e =
+    let l = getD links i noLink in
+    ap (λ (j : Judged). firstOf j Accepted) (all-pass n links i (omega arith) (omega (arith, e)))
+    ∙ ap (firstOf (soFar n Accepted links i)) (sym (link-passes n i l (omega (arith, e))))
+    ∙ soFar-next n Accepted links i (omega arith)
+    ∙ ap (soFar n Accepted links) (add-one i)
+
+none-refused : (n : ℕ) (counts : Judged) (links : List Link) → refusedLinks (upTo counts n) links (upTo counts (length links)) ≡ 0 → counts ≡ soFar n counts links (upTo counts (length links))
+unfolding upTo soFar firstOf
+none-refused n Accepted links e = all-pass n links (length links) (omega arith) e
+none-refused n (Refused number place) links e = refl
+
+-- so judging in turn what is to be judged comes to what rows 1 to 6 give
+pub judged-all : (n k : ℕ) (counts : Judged) (links : List Link) → counts ≡ first (countRows n k true (length links)) → soFar n counts links (toJudge (refusedLinks (upTo counts n) links (upTo counts (length links))) (upTo counts (length links))) ≡ first (tableRows n k true links)
+unfolding toJudge
+judged-all n k counts links e = by-test (eqb refused 0) refl
+  where
+    refused : ℕ
+    refused = refusedLinks (upTo counts n) links (upTo counts (length links))
+
+    by-test : (b : Bool) → eqb refused 0 ≡ b → soFar n counts links (cond b 0 (upTo counts (length links))) ≡ first (tableRows n k true links)
+    by-test true t = sym (soFar-none n counts links) ∙ none-refused n counts links (eqb-true refused 0 t) ∙ soFar-all n k counts links e
+    by-test false t = soFar-all n k counts links e
+
+pub toJudge-most : (refused count : ℕ) → toJudge refused count ≤ count
+unfolding toJudge
+toJudge-most refused count = by-test (eqb refused 0)
+  where
+    by-test : (b : Bool) → cond b 0 count ≤ count
+    by-test true = omega arith
+    by-test false = omega arith
+
+-- there are bones and links enough for their counts
+pub upTo-4096 : (n k : ℕ) (counts : Judged) (links : List Link) → counts ≡ first (countRows n k true (length links)) → upTo counts (length links) ≤ 4096
+unfolding upTo
+upTo-4096 n k Accepted links e = counts-accepted n k true (length links) (sym e) .few-links
+upTo-4096 n k (Refused number place) links e = omega arith
+
+-- what is left of 128 once what is left of it is taken away
+pub all-but : (n k : ℕ) (counts : Judged) (links : List Link) → counts ≡ first (countRows n k true (length links)) → 128 - (128 - upTo counts n) ≡ upTo counts n
+unfolding upTo
+all-but n k Accepted links e = let h : n ≤ 128 = counts-accepted n k true (length links) (sym e) .few-bones in omega arith
+all-but n k (Refused number place) links e = omega arith
+
+pub few-bones : (n k : ℕ) (counts : Judged) (links : List Link) → counts ≡ first (countRows n k true (length links)) → counts ≡ Accepted → n ≤ 128
+few-bones n k counts links e a = counts-accepted n k true (length links) (sym e ∙ a) .few-bones
 
 -- adding the first i links
 pub tallied-take : (t : List ℕ) (links : List Link) (i : ℕ) → i < length links → added (tallied t (take i links)) (getD links i noLink) ≡ tallied t (take (i + 1) links)

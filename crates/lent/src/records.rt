@@ -6,14 +6,14 @@ use pairs::links::judge_counts;
 use pairs::links::judge_link;
 use pairs::table::add_within;
 ghost use mathlib.Core.Path.{_≡_};
-ghost use Prim.Native.Nat.{_+_, _<_, _≤_};
+ghost use Prim.Native.Nat.{_+_, _-_, _<_, _≤_};
 ghost use mathlib.Core.Bool.{true};
 ghost use lib.ListN.{length, getD, set, take};
 ghost use Rattle.meaning.specs.Judge.{first};
 ghost use Rattle.meaning.specs.declared.Judged.the-variants.{Accepted};
 ghost use Rattle.pairs.specs.Links.{linkRows, linksRows, tableRows};
 ghost use Rattle.pairs.specs.Table.{added, tallied, filled};
-ghost use Rattle.lent.specs.Records.{noLink, firstOf, upTo, sameLabel, keptLinks, written};
+ghost use Rattle.lent.specs.Records.{noLink, firstOf, upTo, refusedOne, refusedLinks, toJudge, sameLabel, keptLinks, written};
 
 // The link in place i; past the end, a link of noughts.
 pub fn link_at(links: &[Link], i: usize) -> Link
@@ -28,6 +28,14 @@ pub fn link_at(links: &[Link], i: usize) -> Link
             tally: 0,
         }
     }
+}
+
+// The link in place i, which is one of the run.
+pub(crate) fn link_of(links: &[Link], i: usize) -> Link
+    requires { ⌜ i < length (now links) ⌝ }
+    ensures { λ l. ⌜ l ≡ getD (now (links .entry)) i noLink ⌝ }
+{
+    links[i]
 }
 
 // The link is put in place i, and the others stay; past the end nothing changes.
@@ -63,12 +71,73 @@ fn judge_next(judged: Judged, n: u64, l: Link, i: usize) -> Judged
     }
 }
 
-// Rows 1 to 6 on links lent as records.
+// How many bones fewer than 128 the links are judged among: 128 once the input is refused. A bone is one of them where the sum is below 128, a test
+// on which the compiler stays at 32 bits.
+fn fewer_of(judged: Judged, n: u64) -> u32
+    requires { ⌜ (judged ≡ Accepted → n ≤ 128) ⌝ }
+    ensures { λ r. ⌜ r ≡ 128 - upTo judged n ⌝ }
+{
+    match judged {
+        Judged::Accepted => 128 - n as u32,
+        Judged::Refused {
+            number: _,
+            place: _,
+        } => 128,
+    }
+}
+
+// 1 where rows 4, 5 and 6 refuse a link, else 0. The same bone twice is told from the two bytes that it makes, which keeps the compiler at 32 bits.
+fn refused_one(fewer: u32, l: Link) -> u32
+    requires { ⌜ fewer ≤ 128 ⌝ }
+    ensures { λ r. ⌜ r ≡ refusedOne (128 - fewer) l ⌝ }
+{
+    let a = l.a as u32;
+    let b = l.b as u32;
+    if 128 <= a + fewer {
+        return 1;
+    }
+    if 128 <= b + fewer {
+        return 1;
+    }
+    if a * 257 == b * 256 + a {
+        return 1;
+    }
+    let tally = l.tally;
+    if tally == 0 {
+        return 1;
+    }
+    0
+}
+
+// How many of the first links are refused: a sum, so that the compiler may take several links at once.
+fn refused_links(fewer: u32, links: &[Link], count: usize) -> u32
+    requires { ⌜ (fewer ≤ 128) × (count ≤ length (now links)) × (count ≤ 4096) ⌝ }
+    ensures { λ r. ⌜ r ≡ refusedLinks (128 - fewer) (now (links .entry)) count ⌝ }
+{
+    let mut refused = 0;
+    let mut i = 0;
+    while i < count {
+        refused += refused_one(fewer, link_of(links, i));
+        i += 1;
+    }
+    refused
+}
+
+// How many links are judged in turn: none where none is refused.
+fn to_judge(refused: u32, count: usize) -> usize
+    ensures { λ r. ⌜ r ≡ toJudge refused count ⌝ }
+{
+    if refused == 0 { 0 } else { count }
+}
+
+// Rows 1 to 6 on links lent as records. Most runs have nothing to refuse, so the first refusal is looked for only where there is one.
 pub fn judge_records(n: u64, k: u64, links: &[Link]) -> Judged
     ensures { λ r. ⌜ r ≡ first (tableRows n k true (now (links .entry))) ⌝ }
 {
     let mut judged = judge_counts(n, k, true, links.len());
-    let count = up_to(judged, links.len());
+    let all = up_to(judged, links.len());
+    let refused = refused_links(fewer_of(judged, n), links, all);
+    let count = to_judge(refused, all);
     let mut i = 0;
     while i < count {
         judged = judge_next(judged, n, link_at(links, i), i);
@@ -92,7 +161,7 @@ fn add_records(links: &[Link], count: usize, table: &mut [u32; 16384])
 {
     let mut i = 0;
     while i < count {
-        add_record(table, link_at(links, i));
+        add_record(table, link_of(links, i));
         i += 1;
     }
 }

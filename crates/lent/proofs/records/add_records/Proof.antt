@@ -50,11 +50,11 @@ use Rattle.pairs.specs.Table.{tallied}
 use Rattle.lent.specs.Records.{noLink}
 use Rattle.lent.proofs.RecordsRows.{tallied-take, tallied-no, ends-below}
 use Rattle.lent.proofs.RecordsLink.{R, link, typed, slice}
-use Rattle.lent.proofs.RecordsRead.{Own, LinkAt, calls-link-at}
+use Rattle.lent.proofs.RecordsRead.{Own, LinkOf, calls-link-of}
 use Rattle.lent.proofs.RecordsTable.{Table, tableRef, OwnTable, AddRecord, calls-add}
-use Rattle.lent.proofs.records.link_at.Symbol as at-def
-use Rattle.lent.proofs.records.link_at.Symbol.{name as #link-at}
-use Rattle.lent.proofs.records.link_at.Met as at-thm
+use Rattle.lent.proofs.records.link_of.Symbol as at-def
+use Rattle.lent.proofs.records.link_of.Symbol.{name as #link-of}
+use Rattle.lent.proofs.records.link_of.Met as at-thm
 use Rattle.lent.proofs.records.add_record.Symbol as add-def
 use Rattle.lent.proofs.records.add_record.Symbol.{name as #add-record}
 use Rattle.lent.proofs.records.add_record.Met as add-thm
@@ -92,7 +92,7 @@ module _ {M : Type 1} (𝓤 : URA M) (H : Heap 𝓤) (A : Atoms 𝓤) (W : Given
       nothing ! $ move ! (2 ∷ 0 ∷ []) $ fjoin ! $ owned ! usize (Is usize) (uint-makes 𝓤 H A W w64) count (vint w64 count ∷ []) (refl, gc) $ fjoin ! $ move ! (1 ∷ 0 ∷ []) $ fjoin ! $ frame ! $
       feqI ! (List Val) (vunit ∷ []) (vunit ∷ []) refl $ done !
 
-  module _ (𝓣 : Tables 𝓤 H) (known-at : Triple 𝓤 (𝓣 .C #link-at) (LinkAt 𝓤 H A mem run)) (known-add : Triple 𝓤 (𝓣 .C #add-record) (AddRecord b o 𝓤 H A mem run)) where
+  module _ (𝓣 : Tables 𝓤 H) (known-at : Triple 𝓤 (𝓣 .C #link-of) (LinkOf 𝓤 H A mem run)) (known-add : Triple 𝓤 (𝓣 .C #add-record) (AddRecord b o 𝓤 H A mem run)) where
     module _ (l₀ l₁ l₂ l₃ l₄ l₅ l₆ l₇ l₈ : ℕ) where
       abbrev En : Env 𝓤 H
       En = (tyUnit, l₀) ∷ (slice imm, l₁) ∷ (tyInt w64, l₂) ∷ (tableRef (named 1), l₃) ∷ (tyInt w64, l₄) ∷ (tyBool, l₅) ∷ (tyUnit, l₆) ∷ (tableRef erased, l₇) ∷ (link, l₈) ∷ []
@@ -121,7 +121,7 @@ module _ {M : Type 1} (𝓤 : URA M) (H : Heap 𝓤) (A : Atoms 𝓤) (W : Given
           assigns ! (bin ! (load ! (from ! (stop !)) (look ! 12 refl)) (load ! (from ! (stop !)) (look ! 16 refl)) tt) (from ! (stop !)) (init ! 10 refl (tt, tt)) $
           rewrite ! 10 (λ (s : Bool). ‵ (fat fullShare tyBool l₅ 0 (vbool s))) e refl $ stays ! (load ! (from ! (stop !)) (look ! 10 refl)) $
           assigns ! (addr ! (from ! (hop ! (look ! 14 refl) (stop !)))) (from ! (stop !)) (init ! 6 refl (tt, tt)) $
-          calls-link-at ! mem run (fmOf 𝓤 H (W .laws) 𝓣) known-at x (i .0) (lt-of-le-of-lt (i .1) gc) (and-then ! (load ! (from ! (stop !)) (look ! 18 refl)) (and-then ! (load ! (from ! (stop !)) (look ! 12 refl)) (no-more !))) (λ is.
+          calls-link-of ! mem run (fmOf 𝓤 H (W .laws) 𝓣) known-at x (i .0) (lt-of-lt-of-le less few) (lt-of-le-of-lt (i .1) gc) (and-then ! (load ! (from ! (stop !)) (look ! 18 refl)) (and-then ! (load ! (from ! (stop !)) (look ! 12 refl)) (no-more !))) (λ is.
           land ! (from ! (stop !)) (init ! 4 refl (typed 𝓤 H A W _ is)) $ move ! (2 ∷ 3 ∷ []) $
           calls-add ! mem run (fmOf 𝓤 H (W .laws) 𝓣) known-add (tallied t (take (i .0) ys)) (getD ys (i .0) noLink) is (ends-below ys count (i .0) ok few less)
           (λ α δ. and-then ! (load ! (from ! (stop !)) (look ! 6 refl)) (and-then ! (load ! (from ! (stop !)) (look ! 4 refl)) (no-more !))) $
@@ -170,5 +170,5 @@ add-records-spec 𝓤 H 𝓜 𝓖 𝓡 =
     (walked 𝓤 H (𝓖 .A) f.ended stayed (f.clauses 𝓤 H (𝓖 .A) (𝓜 .mem) (𝓡 .run)) (WpFn 𝓤 H (𝓣 .C) (𝓣 .Λ) code.function) (λ κs. (slice-vals, (uint-vals w64, (ptr-vals, tt)))) (λ κs. (shr-slice-tells (named 0) (κs .0) R, (uint-tells w64, (mut-tells (named 1) (κs .1 .0) Table, tt))))
     (λ κs qs bounds a g are. needs 𝓤 _ _ (λ asked. walk 𝓤 H (𝓖 .A) W (𝓜 .mem) (𝓡 .run) (κs .0) (κs .1 .0) (qs .0) (qs .1 .0) (a .0) (a .1 .0) (a .1 .1 .0 .ptr .0) (a .1 .1 .0 .ptr .1) (a .1 .1 .0 .name) (a .1 .1 .0 .now)
     (are .0 .0 .1) (are .1 .0 .1) (asked .0) (asked .1) 𝓣
-    (cited 𝓤 H (LinkAt 𝓤 H (𝓖 .A) (𝓜 .mem) (𝓡 .run)) 𝓜 𝓡 code.env #link-at at-def.routine code.calls-lent·records·link-at (at-thm.met 𝓤 H 𝓜 𝓖 𝓡))
+    (cited 𝓤 H (LinkOf 𝓤 H (𝓖 .A) (𝓜 .mem) (𝓡 .run)) 𝓜 𝓡 code.env #link-of at-def.routine code.calls-lent·records·link-of (at-thm.met 𝓤 H 𝓜 𝓖 𝓡))
     (cited 𝓤 H (AddRecord (a .1 .1 .0 .ptr .0) (a .1 .1 .0 .ptr .1) 𝓤 H (𝓖 .A) (𝓜 .mem) (𝓡 .run)) 𝓜 𝓡 code.env #add-record add-def.routine code.calls-lent·records·add-record (add-thm.met 𝓤 H 𝓜 𝓖 𝓡))))))
