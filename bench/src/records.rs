@@ -35,20 +35,16 @@ extern "C" {
     ) -> u32;
 }
 
+const CALLS: [Call; 2] = [bytes_groups, records_groups];
 const BATCH: Duration = Duration::from_micros(200);
-const BATCHES: usize = 41;
+const ROUNDS: usize = 61;
 
-/// One list, and nanoseconds a call of each form.
+/// One list, nanoseconds a call of each form, and the ratio of the two.
 struct Both<'a> {
     row: &'a Row,
     bytes: f64,
     records: f64,
-}
-
-impl Both<'_> {
-    fn ratio(&self) -> f64 {
-        self.records / self.bytes
-    }
+    ratio: f64,
 }
 
 struct Room {
@@ -86,7 +82,7 @@ impl Room {
     /// Both forms give the labels and the number of groups that the library gave.
     fn agree(&mut self, row: &Row) -> Result<(), String> {
         let mut given = Vec::new();
-        for call in [bytes_groups as Call, records_groups] {
+        for call in CALLS {
             self.labels.fill(255);
             if self.groups(call, row, 1) as usize != row.times.groups {
                 return Err(format!("{}: another number of groups over records or bytes\n{}", row.list.name, row.list.text()));
@@ -99,21 +95,33 @@ impl Room {
         Ok(())
     }
 
-    /// Batches of the two take turns. What a call with no grouping takes, the records made among it, is taken off.
+    /// The quickest of some calls that group no time: among it, over records, the making of the records.
+    fn making(&mut self, call: Call, row: &Row) -> f64 {
+        (0..ROUNDS).map(|_| self.time(call, row, 0)).fold(f64::INFINITY, f64::min)
+    }
+
+    /// In each round a batch of the one and a batch of the other. The times are those of the quickest batches; the ratio is the median of the
+    /// rounds' ratios, since a busy moment of the machine meets both batches of a round.
     fn both<'a>(&mut self, row: &'a Row) -> Result<Both<'a>, String> {
         self.agree(row)?;
         let times = ((BATCH.as_nanos() as f64 / row.times.library) as u32).max(1);
-        let calls = [bytes_groups as Call, records_groups];
-        let (mut whole, mut none) = ([f64::INFINITY; 2], [f64::INFINITY; 2]);
-        for _ in 0..BATCHES {
-            for (form, call) in calls.into_iter().enumerate() {
-                whole[form] = whole[form].min(self.time(call, row, times));
-                none[form] = none[form].min(self.time(call, row, 0));
+        let making = CALLS.map(|call| self.making(call, row));
+        let mut rounds: Vec<[f64; 2]> = Vec::new();
+        for round in 0..ROUNDS {
+            let mut each = [0.0; 2];
+            for form in [round % 2, 1 - round % 2] {
+                each[form] = (self.time(CALLS[form], row, times) - making[form]) / f64::from(times);
             }
+            rounds.push(each);
         }
-        let each = |form: usize| (whole[form] - none[form]) / f64::from(times);
-        Ok(Both { row, bytes: each(0), records: each(1) })
+        let quickest = |form: usize| rounds.iter().map(|each| each[form]).fold(f64::INFINITY, f64::min);
+        Ok(Both { row, bytes: quickest(0), records: quickest(1), ratio: median(rounds.iter().map(|each| each[1] / each[0]).collect()) })
     }
+}
+
+fn median(mut values: Vec<f64>) -> f64 {
+    values.sort_by(f64::total_cmp);
+    values[values.len() / 2]
 }
 
 /// A line for each family at the least and the greatest size: means over its lists, and the worst of their ratios.
@@ -129,9 +137,9 @@ pub fn print(rows: &[Row]) -> Result<(), String> {
             all.extend(line);
         }
     }
-    let worst = all.iter().max_by(|a, b| a.ratio().total_cmp(&b.ratio())).ok_or("no lists")?;
-    println!("ratio records / bytes, geometric mean over {} lists: {:.2}", all.len(), geometric_mean(all.iter().map(Both::ratio)));
-    println!("worst ratio: {:.2}, {} ({:.0} ns beside {:.0} ns)", worst.ratio(), worst.row.list.name, worst.records, worst.bytes);
+    let worst = all.iter().max_by(|a, b| a.ratio.total_cmp(&b.ratio)).ok_or("no lists")?;
+    println!("ratio records / bytes, geometric mean over {} lists: {:.2}", all.len(), geometric_mean(all.iter().map(|both| both.ratio)));
+    println!("worst ratio: {:.2}, {} ({:.0} ns beside {:.0} ns)", worst.ratio, worst.row.list.name, worst.records, worst.bytes);
     Ok(())
 }
 
@@ -144,7 +152,7 @@ fn print_line(family: &str, line: &[Both]) {
         first.row.list.count(),
         geometric_mean(line.iter().map(|both| both.bytes)),
         geometric_mean(line.iter().map(|both| both.records)),
-        geometric_mean(line.iter().map(Both::ratio)),
-        line.iter().map(Both::ratio).fold(0.0, f64::max)
+        geometric_mean(line.iter().map(|both| both.ratio)),
+        line.iter().map(|both| both.ratio).fold(0.0, f64::max)
     );
 }

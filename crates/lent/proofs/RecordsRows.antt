@@ -202,13 +202,13 @@ toJudge-most refused count = by-test (eqb refused 0)
     by-test true = omega arith
     by-test false = omega arith
 
--- there are bones and links enough for their counts
+-- where rows 1, 2 and 3 gave `counts`: no more than 4096 links are gone through, and there are at most 128 bones
 pub upTo-4096 : (n k : ℕ) (counts : Judged) (links : List Link) → counts ≡ first (countRows n k true (length links)) → upTo counts (length links) ≤ 4096
 unfolding upTo
 upTo-4096 n k Accepted links e = counts-accepted n k true (length links) (sym e) .few-links
 upTo-4096 n k (Refused number place) links e = omega arith
 
--- what is left of 128 once what is left of it is taken away
+-- the bones are those that are not left out of 128
 pub all-but : (n k : ℕ) (counts : Judged) (links : List Link) → counts ≡ first (countRows n k true (length links)) → 128 - (128 - upTo counts n) ≡ upTo counts n
 unfolding upTo
 all-but n k Accepted links e = let h : n ≤ 128 = counts-accepted n k true (length links) (sym e) .few-bones in omega arith
