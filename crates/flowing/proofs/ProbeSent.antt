@@ -25,7 +25,7 @@ sent-same p f g t L v b d e s A at off =
     (sum-ext (p .pairs) _ _ (λ q h. ap (λ (z : ℕ). cond (A (p .x q) && not (A (p .y q))) z 0 + cond (A (p .y q) && not (A (p .x q))) (2 * p .room q - z) 0) (sym (e q h))))
     ∙ s A at off
 
-module _ (ways res : List ℕ) (m q b c r d : ℕ) (below : q < m) (few : m ≤ 448) (long : length res ≡ 448) (room-is : r ≡ getD ways q 0 / 65536) (full : getD res q 0 ≤ 2 * r) where
+module _ (ways res : List ℕ) (m q b c r d : ℕ) (below : q < m) (few : m ≤ 512) (long : length res ≡ 512) (room-is : r ≡ getD ways q 0 / 65536) (full : getD res q 0 ≤ 2 * r) where
   -- one store changes what is left at one pair
   kept : (z : ℕ) (i : ℕ) → i < m → (i ≡ q → ⊥) → leftOf res i ≡ leftOf (set res q z) i
   unfolding leftOf

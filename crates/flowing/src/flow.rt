@@ -37,17 +37,17 @@ fn mark(path: &[u16; 128], free: &[u8; 128], seen: &mut [u8; 128])
 // One path is looked for, and tally sent along it. Gives how much was sent; nought where nothing was, and then the bones reached are
 // marked. Until then `seen` is the look's queue.
 fn round(
-    ways: &[u32; 448],
-    arcs: &[u16; 576],
+    ways: &[u32; 512],
+    arcs: &[u16; 640],
     m: usize,
     free: &[u8; 128],
     t: usize,
     want: u32,
-    res: &mut [u32; 448],
+    res: &mut [u32; 512],
     seen: &mut [u8; 128],
 ) -> u32
-    requires { ⌜ (m ≤ 448) × (t < 128) × (length (now res) ≡ 448) ⌝ }
-    ensures { λ r. ⌜ length (now (res .exit)) ≡ 448 ⌝ }
+    requires { ⌜ (m ≤ 512) × (t < 128) × (length (now res) ≡ 512) ⌝ }
+    ensures { λ r. ⌜ length (now (res .exit)) ≡ 512 ⌝ }
     ensures { λ r. ⌜ (0 < r → Sends (waysOf (now (ways .entry)) m) (now (res .entry)) (now (res .exit)) t (unmarked (now (free .entry))) r) ⌝ }
     ensures { λ r. ⌜ (r ≡ 0 → Clear (unmarked (now (free .entry))) (now (seen .exit))) ⌝ }
 {
@@ -85,8 +85,8 @@ fn way_out(seen: &[u8; 128], way: u32) -> u64
 }
 
 // The room of all pairs out of the side that is marked.
-fn leaving(ways: &[u32; 448], m: usize, seen: &[u8; 128]) -> u64
-    requires { ⌜ (m ≤ 448) × (length (now seen) ≡ 128) ⌝ }
+fn leaving(ways: &[u32; 512], m: usize, seen: &[u8; 128]) -> u64
+    requires { ⌜ (m ≤ 512) × (length (now seen) ≡ 128) ⌝ }
     ensures { λ r. ⌜ r ≡ leaves (waysOf (now (ways .entry)) m) (waysOf (now (ways .entry)) m .room) (marked (now (seen .entry))) ⌝ }
 {
     let mut out: u64 = 0;
@@ -104,14 +104,14 @@ pub struct Shown {
 
 // Nothing more can be sent: the side that is marked is weighed.
 fn settle(
-    ways: &[u32; 448],
+    ways: &[u32; 512],
     m: usize,
     k: u64,
     free: &[u8; 128],
     t: usize,
     seen: &[u8; 128],
 ) -> Shown
-    requires { ⌜ (m ≤ 448) × (t < 128) ⌝ }
+    requires { ⌜ (m ≤ 512) × (t < 128) ⌝ }
     requires { ⌜ Clear (unmarked (now free)) (now seen) ⌝ }
     ensures { λ r. ⌜ Flowed (waysOf (now (ways .entry)) m) k t (unmarked (now (free .entry))) (now (seen .entry)) (r .verdict) (r .weight) ⌝ }
 {
@@ -133,18 +133,18 @@ fn settle(
 // Tally is sent from bone t to the bones that are not free until k was sent (verdict 1), or until no path is left and the free bones that
 // t still reaches weigh less than k (verdict 2, and `seen` marks them). Verdict 0: nothing is known.
 fn flow_within(
-    ways: &[u32; 448],
-    arcs: &[u16; 576],
+    ways: &[u32; 512],
+    arcs: &[u16; 640],
     m: usize,
     k: u64,
     free: &[u8; 128],
     t: usize,
     seen: &mut [u8; 128],
 ) -> Shown
-    requires { ⌜ (m ≤ 448) × (t < 128) × (k < 65536) ⌝ }
+    requires { ⌜ (m ≤ 512) × (t < 128) × (k < 65536) ⌝ }
     ensures { λ r. ⌜ Flowed (waysOf (now (ways .entry)) m) k t (unmarked (now (free .entry))) (now (seen .exit)) (r .verdict) (r .weight) ⌝ }
 {
-    let mut res = [0u32; 448];
+    let mut res = [0u32; 512];
     start(ways, m, &mut res);
     let mut sent: u64 = 0;
     while sent < k {
@@ -165,8 +165,8 @@ fn flow_within(
 // The same for any numbers: nothing is known where there is no such bone, where there are more pairs than are listed, or where k is over
 // 65,535.
 pub fn flow(
-    ways: &[u32; 448],
-    arcs: &[u16; 576],
+    ways: &[u32; 512],
+    arcs: &[u16; 640],
     m: usize,
     k: u64,
     free: &[u8; 128],
@@ -175,7 +175,7 @@ pub fn flow(
 ) -> Shown
     ensures { λ r. ⌜ Flowed (waysOf (now (ways .entry)) m) k t (unmarked (now (free .entry))) (now (seen .exit)) (r .verdict) (r .weight) ⌝ }
 {
-    if m <= 448 {
+    if m <= 512 {
         if t < 128 {
             if k < 65536 {
                 return flow_within(ways, arcs, m, k, free, t, seen);

@@ -43,7 +43,7 @@ fn reached(
     queue: &mut [u8; 128],
     front: Front,
 ) -> Front
-    requires { ⌜ (arc < 896) × (c < 128) × (front .tail ≤ 128) ⌝ }
+    requires { ⌜ (arc < 1024) × (c < 128) × (front .tail ≤ 128) ⌝ }
     ensures { λ r. ⌜ r .tail ≤ 128 ⌝ }
 {
     let tail = front.tail;
@@ -63,15 +63,15 @@ fn reached(
 
 // An arc is tried: where it has room left and goes to a bone not reached yet, that bone is reached over it.
 fn try_arc(
-    ways: &[u32; 448],
-    res: &[u32; 448],
+    ways: &[u32; 512],
+    res: &[u32; 512],
     free: &[u8; 128],
     arc: usize,
     path: &mut [u16; 128],
     queue: &mut [u8; 128],
     front: Front,
 ) -> Front
-    requires { ⌜ (arc < 896) × (front .tail ≤ 128) ⌝ }
+    requires { ⌜ (arc < 1024) × (front .tail ≤ 128) ⌝ }
     ensures { λ r. ⌜ r .tail ≤ 128 ⌝ }
 {
     let q = arc / 2;
@@ -87,10 +87,10 @@ fn try_arc(
     front
 }
 
-// The arc that is tried after an arc of bone b, 896 where there is none. Arcs to greater bones come first, and `arcs` has the next of each.
+// The arc that is tried after an arc of bone b, 1024 where there is none. Arcs to greater bones come first, and `arcs` has the next of each.
 // Arcs to lesser bones are of pairs listed one after the other, so the next is of the pair before, if that is b's too.
-fn after(ways: &[u32; 448], arcs: &[u16; 576], arc: usize, b: usize) -> usize
-    requires { ⌜ arc < 896 ⌝ }
+fn after(ways: &[u32; 512], arcs: &[u16; 640], arc: usize, b: usize) -> usize
+    requires { ⌜ arc < 1024 ⌝ }
 {
     let q = arc / 2;
     if arc % 2 == 1 {
@@ -101,15 +101,15 @@ fn after(ways: &[u32; 448], arcs: &[u16; 576], arc: usize, b: usize) -> usize
             return arc - 2;
         }
     }
-    896
+    1024
 }
 
-// The arcs of bone b, of which `arcs` has the first at 448 + b, are tried in turn, each below the one before, until one goes to a bone that
+// The arcs of bone b, of which `arcs` has the first at 512 + b, are tried in turn, each below the one before, until one goes to a bone that
 // is not free.
 fn spread(
-    ways: &[u32; 448],
-    arcs: &[u16; 576],
-    res: &[u32; 448],
+    ways: &[u32; 512],
+    arcs: &[u16; 640],
+    res: &[u32; 512],
     free: &[u8; 128],
     b: usize,
     path: &mut [u16; 128],
@@ -120,8 +120,8 @@ fn spread(
     ensures { λ r. ⌜ r .tail ≤ 128 ⌝ }
 {
     let mut got = front;
-    let mut arc = arc_of(arcs[448 + b]);
-    let mut before = 896;
+    let mut arc = arc_of(arcs[512 + b]);
+    let mut before = 1024;
     while arc < before {
         got = try_arc(ways, res, free, arc, path, queue, got);
         if got.met < 128 {
@@ -136,9 +136,9 @@ fn spread(
 // A bone that is not free to which a path with room left leads from t, 128 where none is met. `path` has for each bone reached one more than
 // the arc that it was reached over, for t the greatest number, and for any other bone nought, as it had at first.
 pub(crate) fn reach(
-    ways: &[u32; 448],
-    arcs: &[u16; 576],
-    res: &[u32; 448],
+    ways: &[u32; 512],
+    arcs: &[u16; 640],
+    res: &[u32; 512],
     free: &[u8; 128],
     t: usize,
     path: &mut [u16; 128],
@@ -164,25 +164,25 @@ pub(crate) fn reach(
     128
 }
 
-// The arc over which a bone was reached, 896 where there is none.
+// The arc over which a bone was reached, 1024 where there is none.
 pub(crate) fn arc_back(path: &[u16; 128], b: usize) -> usize
-    ensures { λ r. ⌜ r ≤ 896 ⌝ }
+    ensures { λ r. ⌜ r ≤ 1024 ⌝ }
 {
     if b < 128 {
         let a = arc_of(path[b]);
         if 0 < a {
-            if a <= 896 {
+            if a <= 1024 {
                 return a - 1;
             }
         }
     }
-    896
+    1024
 }
 
 // The least that is left on the path from t to the bone met, `want` at most; nought where the path breaks off.
 pub(crate) fn narrow(
-    ways: &[u32; 448],
-    res: &[u32; 448],
+    ways: &[u32; 512],
+    res: &[u32; 512],
     path: &[u16; 128],
     t: usize,
     met: usize,
@@ -193,7 +193,7 @@ pub(crate) fn narrow(
     let mut turns: usize = 0;
     while b != t {
         let arc = arc_back(path, b);
-        if 896 <= arc {
+        if 1024 <= arc {
             return 0;
         }
         if 128 <= turns {

@@ -12,9 +12,9 @@ ghost use lib.ListN.{length};
 ghost use Rattle.flowing.specs.Flow.{waysOf, leftOf, unmarked, Moved, Sends};
 
 // At first all room is left.
-pub(crate) fn start(ways: &[u32; 448], m: usize, res: &mut [u32; 448])
-    requires { ⌜ (m ≤ 448) × (length (now res) ≡ 448) ⌝ }
-    ensures { λ r. ⌜ length (now (res .exit)) ≡ 448 ⌝ }
+pub(crate) fn start(ways: &[u32; 512], m: usize, res: &mut [u32; 512])
+    requires { ⌜ (m ≤ 512) × (length (now res) ≡ 512) ⌝ }
+    ensures { λ r. ⌜ length (now (res .exit)) ≡ 512 ⌝ }
     ensures { λ r. ⌜ ((q : ℕ) → q < m → leftOf (now (res .exit)) q ≡ waysOf (now (ways .entry)) m .room q) ⌝ }
 {
     for q in 0..m {
@@ -24,15 +24,15 @@ pub(crate) fn start(ways: &[u32; 448], m: usize, res: &mut [u32; 448])
 
 // d goes from end x of pair q to end y, which must be bone b: gives end x, 256 where that cannot be.
 fn step_forth(
-    ways: &[u32; 448],
+    ways: &[u32; 512],
     m: usize,
     q: usize,
     b: usize,
     d: u32,
-    res: &mut [u32; 448],
+    res: &mut [u32; 512],
 ) -> usize
-    requires { ⌜ (q < m) × (m ≤ 448) × (length (now res) ≡ 448) ⌝ }
-    ensures { λ r. ⌜ length (now (res .exit)) ≡ 448 ⌝ }
+    requires { ⌜ (q < m) × (m ≤ 512) × (length (now res) ≡ 512) ⌝ }
+    ensures { λ r. ⌜ length (now (res .exit)) ≡ 512 ⌝ }
     ensures { λ r. ⌜ (r < 256 → Moved (waysOf (now (ways .entry)) m) (now (res .entry)) (now (res .exit)) b r d) ⌝ }
 {
     let way = ways[q];
@@ -49,9 +49,9 @@ fn step_forth(
 }
 
 // d goes from end y of pair q to end x.
-fn step_back(ways: &[u32; 448], m: usize, q: usize, b: usize, d: u32, res: &mut [u32; 448]) -> usize
-    requires { ⌜ (q < m) × (m ≤ 448) × (length (now res) ≡ 448) ⌝ }
-    ensures { λ r. ⌜ length (now (res .exit)) ≡ 448 ⌝ }
+fn step_back(ways: &[u32; 512], m: usize, q: usize, b: usize, d: u32, res: &mut [u32; 512]) -> usize
+    requires { ⌜ (q < m) × (m ≤ 512) × (length (now res) ≡ 512) ⌝ }
+    ensures { λ r. ⌜ length (now (res .exit)) ≡ 512 ⌝ }
     ensures { λ r. ⌜ (r < 256 → Moved (waysOf (now (ways .entry)) m) (now (res .entry)) (now (res .exit)) b r d) ⌝ }
 {
     let way = ways[q];
@@ -69,9 +69,9 @@ fn step_back(ways: &[u32; 448], m: usize, q: usize, b: usize, d: u32, res: &mut 
 }
 
 // d goes over an arc to bone b: gives the bone that the arc comes from, 256 where that cannot be.
-fn step(ways: &[u32; 448], m: usize, arc: usize, b: usize, d: u32, res: &mut [u32; 448]) -> usize
-    requires { ⌜ (m ≤ 448) × (length (now res) ≡ 448) ⌝ }
-    ensures { λ r. ⌜ length (now (res .exit)) ≡ 448 ⌝ }
+fn step(ways: &[u32; 512], m: usize, arc: usize, b: usize, d: u32, res: &mut [u32; 512]) -> usize
+    requires { ⌜ (m ≤ 512) × (length (now res) ≡ 512) ⌝ }
+    ensures { λ r. ⌜ length (now (res .exit)) ≡ 512 ⌝ }
     ensures { λ r. ⌜ (r < 256 → Moved (waysOf (now (ways .entry)) m) (now (res .entry)) (now (res .exit)) b r d) ⌝ }
 {
     let q = arc / 2;
@@ -86,16 +86,16 @@ fn step(ways: &[u32; 448], m: usize, arc: usize, b: usize, d: u32, res: &mut [u3
 
 // d goes along the path from t to the bone met; the walk is back from that bone. Gives whether it came to t.
 fn walk(
-    ways: &[u32; 448],
+    ways: &[u32; 512],
     m: usize,
     path: &[u16; 128],
     t: usize,
     met: usize,
     d: u32,
-    res: &mut [u32; 448],
+    res: &mut [u32; 512],
 ) -> bool
-    requires { ⌜ (m ≤ 448) × (length (now res) ≡ 448) ⌝ }
-    ensures { λ r. ⌜ length (now (res .exit)) ≡ 448 ⌝ }
+    requires { ⌜ (m ≤ 512) × (length (now res) ≡ 512) ⌝ }
+    ensures { λ r. ⌜ length (now (res .exit)) ≡ 512 ⌝ }
     ensures { λ r. ⌜ (r ≡ true → Moved (waysOf (now (ways .entry)) m) (now (res .entry)) (now (res .exit)) met t d) ⌝ }
 {
     let mut b = met;
@@ -117,17 +117,17 @@ fn walk(
 
 // As much as there is room for goes along the path from t to the bone met, `want` at most. Gives how much; nought where nothing went.
 pub(crate) fn send(
-    ways: &[u32; 448],
+    ways: &[u32; 512],
     m: usize,
     free: &[u8; 128],
     path: &[u16; 128],
     t: usize,
     met: usize,
     want: u32,
-    res: &mut [u32; 448],
+    res: &mut [u32; 512],
 ) -> u32
-    requires { ⌜ (m ≤ 448) × (length (now res) ≡ 448) ⌝ }
-    ensures { λ r. ⌜ length (now (res .exit)) ≡ 448 ⌝ }
+    requires { ⌜ (m ≤ 512) × (length (now res) ≡ 512) ⌝ }
+    ensures { λ r. ⌜ length (now (res .exit)) ≡ 512 ⌝ }
     ensures { λ r. ⌜ (0 < r → Sends (waysOf (now (ways .entry)) m) (now (res .entry)) (now (res .exit)) t (unmarked (now (free .entry))) r) ⌝ }
 {
     if met < 128 {

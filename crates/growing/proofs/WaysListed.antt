@@ -94,7 +94,7 @@ leaves-put ways m v A h =
     (ap (wayOut A) (getD-set-same ways m v 0 h))
 
 -- the list grows: at first nothing; a pair that adds nothing; a pair that is put in; too many; a row at its end; a bone outside S
-pub listed-start : (w : Tally) (k : ℕ) (S : Bones) (ways : List ℕ) → length ways ≡ 448 → Listed w k S ways 0 0 0
+pub listed-start : (w : Tally) (k : ℕ) (S : Bones) (ways : List ℕ) → length ways ≡ 512 → Listed w k S ways 0 0 0
 unfolding pairsOut sum
 listed-start w k S ways long = record { long = long; lists = λ h A. leaves-sum ways 0 A }
 
@@ -124,7 +124,7 @@ module _ (w : Tally) (k : ℕ) (S : Bones) (ways : List ℕ) (m i j : ℕ) (so :
         );
       }
 
-  pub listed-put : Symmetric w → T (S i) → T (S j) → i < 128 → j < 128 → m < 448 → (r : ℕ) → r ≡ min (w i j) k → Listed w k S (set ways m (wayOf i j r)) (m + 1) i (j + 1)
+  pub listed-put : Symmetric w → T (S i) → T (S j) → i < 128 → j < 128 → m < 512 → (r : ℕ) → r ≡ min (w i j) k → Listed w k S (set ways m (wayOf i j r)) (m + 1) i (j + 1)
   unfolding pairOut capped
   listed-put symmetric si sj hi hj room r e =
       record {
@@ -137,7 +137,7 @@ module _ (w : Tally) (k : ℕ) (S : Bones) (ways : List ℕ) (m i j : ℕ) (so :
             ∙ sym (pairs-next (capped k w) S A i j);
       }
 
-  pub listed-over : 448 < m → (l : ℕ) → Listed w k S ways m l 0
+  pub listed-over : 512 < m → (l : ℕ) → Listed w k S ways m l 0
   listed-over over l = record { long = so .long; lists = λ h. absurd (omega arith) }
 
   pub listed-row : i ≡ j → Listed w k S ways m (i + 1) 0
@@ -147,7 +147,7 @@ module _ (w : Tally) (k : ℕ) (S : Bones) (ways : List ℕ) (m i j : ℕ) (so :
         lists = λ h A. so .lists h A ∙ ap (pairsOut (capped k w) S A i) (sym e) ∙ sym (pairs-row (capped k w) S A i);
       }
 
-pub listed-full : (w : Tally) (k : ℕ) (S : Bones) (ways : List ℕ) (i j : ℕ) → length ways ≡ 448 → Listed w k S ways 449 i j
+pub listed-full : (w : Tally) (k : ℕ) (S : Bones) (ways : List ℕ) (i j : ℕ) → length ways ≡ 512 → Listed w k S ways 513 i j
 listed-full w k S ways i j long = record { long = long; lists = λ h. absurd (omega arith) }
 
 pub listed-other : (w : Tally) (k : ℕ) (S : Bones) (ways : List ℕ) (m i : ℕ) → T (not (S i)) → Listed w k S ways m i 0 → Listed w k S ways m (i + 1) 0
@@ -160,7 +160,7 @@ listed-all n w k S ways m so =
     record { long = so .long; lists = λ h A. so .lists h A ∙ omega (arith, weight-pairs n (capped k w) S A) }
 
 -- nothing is listed yet, or there are too many
-pub ready-none : {n : ℕ} {w : Tally} {k : ℕ} {S : Bones} {ways : List ℕ} {m : ℕ} → length ways ≡ 448 → 448 < m → Ready n w k S ways m
+pub ready-none : {n : ℕ} {w : Tally} {k : ℕ} {S : Bones} {ways : List ℕ} {m : ℕ} → length ways ≡ 512 → 512 < m → Ready n w k S ways m
 ready-none long over = record { long = long; lists = λ h. absurd (omega arith) }
 
 -- no side has more room than it weighs; and where its room is below k, it has exactly that much

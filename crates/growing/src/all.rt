@@ -41,7 +41,7 @@ pub(crate) fn all_tied(
     requires { ⌜ (n ≤ 128) × ((x : ℕ) → getD (now ties) x 0 ≤ 2 ^ 40) ⌝ }
     ensures { λ r. ⌜ (r ≡ true → AllByTwo n (held (now (table .entry))) k (marked (now (free .entry))) (now (ties .entry))) ⌝ }
 {
-    if 448 < pairs {
+    if 512 < pairs {
         if due(joined) {
             return all_by_two(table, free, ties, n, k);
         }

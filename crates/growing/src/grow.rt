@@ -130,7 +130,7 @@ fn out_with(degrees: &[u32; 128], ties: &[u64; 128], out: u64, v: usize) -> u64
 }
 
 // Bones join p as long as one is known that can, and the set so grown weighs k or more. `left` bones are free, and p's degree is `own`. The
-// pile's pairs are listed at the first probe: until then `pairs` is 450.
+// pile's pairs are listed at the first probe: until then `pairs` is 514.
 fn spread(
     table: &[u32; 16384],
     names: &[u8; 128],
@@ -149,13 +149,13 @@ fn spread(
     requires { ⌜ ((x : ℕ) → T (marked (now free) x) → Weighed n (held (now table)) k (pile n (heapOf (now names)) p) (now degrees) x) ⌝ }
     ensures { λ r. ⌜ Reached n (held (now (table .entry))) k (pile n (heapOf (now (names .entry))) p) p (now (free .exit)) (r .light) (r .left) (r .weight) ⌝ }
 {
-    let mut ways = [0u32; 448];
-    let mut arcs = [0u16; 576];
+    let mut ways = [0u32; 512];
+    let mut arcs = [0u16; 640];
     let mut ties = [0u64; 128];
     add_row(table, n, p, &mut ties);
     let mut out = own;
     let mut left = others;
-    let mut pairs = 450;
+    let mut pairs = 514;
     while 0 < left {
         if out < k {
             return Growth {

@@ -14,7 +14,7 @@ ghost use Rattle.pairs.specs.Marks.{marked};
 ghost use Rattle.growing.specs.Grow.{beside, Probed};
 ghost use Rattle.growing.specs.Listing.{Ready};
 
-// The free bone t of the pile named p is probed. The first m of `ways` are the pile's pairs, unless m is over 448: then nothing is known.
+// The free bone t of the pile named p is probed. The first m of `ways` are the pile's pairs, unless m is over 512: then nothing is known.
 fn probe_listed(
     table: &[u32; 16384],
     names: &[u8; 128],
@@ -22,8 +22,8 @@ fn probe_listed(
     k: u64,
     p: usize,
     t: usize,
-    ways: &[u32; 448],
-    arcs: &[u16; 576],
+    ways: &[u32; 512],
+    arcs: &[u16; 640],
     m: usize,
     free: &mut [u8; 128],
 ) -> Shown
@@ -32,7 +32,7 @@ fn probe_listed(
     requires { ⌜ Ready n (held (now table)) k (pile n (heapOf (now names)) p) (now ways) m ⌝ }
     ensures { λ r. ⌜ Probed n (held (now (table .entry))) k (pile n (heapOf (now (names .entry))) p) p t (now (free .entry)) (now (free .exit)) (r .verdict) (r .weight) ⌝ }
 {
-    if 448 < m {
+    if 512 < m {
         return Shown {
             verdict: 0,
             weight: 0,
@@ -55,7 +55,7 @@ pub(crate) struct Finding {
     pub(crate) pairs: usize,
 }
 
-// The free bone t of the pile named p is probed. At the first probe of a pile m is 450: its pairs are not listed yet.
+// The free bone t of the pile named p is probed. At the first probe of a pile m is 514: its pairs are not listed yet.
 pub(crate) fn probe(
     table: &[u32; 16384],
     names: &[u8; 128],
@@ -63,8 +63,8 @@ pub(crate) fn probe(
     k: u64,
     p: usize,
     t: usize,
-    ways: &mut [u32; 448],
-    arcs: &mut [u16; 576],
+    ways: &mut [u32; 512],
+    arcs: &mut [u16; 640],
     m: usize,
     free: &mut [u8; 128],
 ) -> Finding

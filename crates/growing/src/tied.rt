@@ -158,8 +158,8 @@ pub(crate) fn choose(
     p: usize,
     degrees: &[u32; 128],
     ties: &[u64; 128],
-    ways: &mut [u32; 448],
-    arcs: &mut [u16; 576],
+    ways: &mut [u32; 512],
+    arcs: &mut [u16; 640],
     m: usize,
     free: &mut [u8; 128],
 ) -> Choice

@@ -12,7 +12,7 @@ use Rattle.flowing.proofs.flow.flow_within.Tie as tie
 
 abbrev Inv-loop : tie.InvT-loop
 Inv-loop ways arcs m k free t seen₀ res₀ sent₀ seen res sent =
-    (length res ≡ 448) × Sent (waysOf ways m) (leftOf res) t (unmarked free) sent t 0
+    (length res ≡ 512) × Sent (waysOf ways m) (leftOf res) t (unmarked free) sent t 0
 
 abbrev μ-loop : tie.MeasureT-loop
 μ-loop ways arcs m k free t seen₀ res₀ sent₀ seen res sent = k - sent

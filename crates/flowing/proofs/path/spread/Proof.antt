@@ -6,7 +6,7 @@ use Rattle.flowing.proofs.path.spread.Statement.{statement}
 use Rattle.flowing.proofs.path.spread.Tie as tie
 
 abbrev Inv-loop : tie.InvT-loop
-Inv-loop ways arcs res inside b path₀ queue₀ got₀ arc₀ before₀ path queue got arc before = (before ≤ 896) × (got .tail ≤ 128)
+Inv-loop ways arcs res inside b path₀ queue₀ got₀ arc₀ before₀ path queue got arc before = (before ≤ 1024) × (got .tail ≤ 128)
 
 abbrev μ-loop : tie.MeasureT-loop
 μ-loop ways arcs res inside b path₀ queue₀ got₀ arc₀ before₀ path queue got arc before = before

@@ -11,7 +11,7 @@ use Rattle.flowing.proofs.sending.start.Statement.{statement}
 use Rattle.flowing.proofs.sending.start.Tie as tie
 
 abbrev Inv-loop : tie.InvT-loop
-Inv-loop ways m res₀ q₀ res q = (q ≤ m) × (length res ≡ 448) × ((i : ℕ) → i < q → getD res i 0 ≡ getD ways i 0 / 65536)
+Inv-loop ways m res₀ q₀ res q = (q ≤ m) × (length res ≡ 512) × ((i : ℕ) → i < q → getD res i 0 ≡ getD ways i 0 / 65536)
 
 abbrev μ-loop : tie.MeasureT-loop
 μ-loop ways m res₀ q₀ res q = m - q

@@ -12,7 +12,7 @@ use Rattle.flowing.proofs.sending.walk.Statement.{statement}
 use Rattle.flowing.proofs.sending.walk.Tie as tie
 
 abbrev Inv-loop : tie.InvT-loop
-Inv-loop ways m path t met d res₀ b₀ turns₀ res b turns = (turns ≤ 128) × (length res ≡ 448) × Moved (waysOf ways m) res₀ res met b d
+Inv-loop ways m path t met d res₀ b₀ turns₀ res b turns = (turns ≤ 128) × (length res ≡ 512) × Moved (waysOf ways m) res₀ res met b d
 
 abbrev μ-loop : tie.MeasureT-loop
 μ-loop ways m path t met d res₀ b₀ turns₀ res b turns = 128 - turns
