@@ -117,8 +117,8 @@ fn list_bone(
 }
 
 // The pairs of the pile named p, of which there are as many as it gives; where it gives over 512, there are too many, or k is over 65,535,
-// and nothing is known. They are listed once: until then `known` is 514, and later what it gave. At first no bone has an arc: none is
-// numbered 1024 or more.
+// and nothing is known. Over eight pairs a bone are too many too: few bones that are nearly all paired are as dense as many. They are listed
+// once: until then `known` is 514, and later what it gave. At first no bone has an arc: none is numbered 1024 or more.
 pub(crate) fn list_ways(
     table: &[u32; 16384],
     names: &[u8; 128],
@@ -144,6 +144,9 @@ pub(crate) fn list_ways(
     let mut m = 0;
     for i in 0..n {
         m = list_bone(table, names, n, most, p, i, ways, arcs, m);
+    }
+    if 8 * n < m {
+        return 513;
     }
     m
 }

@@ -42,10 +42,16 @@ loop-less c = omega arith
 loop-again : tie.Need-loop-again Inv-loop μ-loop
 loop-again c = (omega arith, c .list-bone .ensures)
 
+mul-if3 : tie.Need-mul-if3 Inv-loop μ-loop
+mul-if3 c = omega arith
+
 returns-3 : tie.Need-returns-3 Inv-loop μ-loop
-returns-3 c =
-    let l = c .before .loop in
-    let a = c .before .before .before .before .before .args in
+returns-3 c = ready-none (c .before .before .loop .inv .1 .long) (omega arith)
+
+returns-4 : tie.Need-returns-4 Inv-loop μ-loop
+returns-4 c =
+    let l = c .before .before .loop in
+    let a = c .before .before .before .before .before .before .args in
     let S = pile (a .n) (heapOf (a .names .now)) (a .p) in
     let all : l .i ≡ a .n = omega arith in
     let so : Listed (held (a .table .now)) (a .k) S (l .ways) (l .m) (a .n) 0 = subst (λ (i : ℕ). Listed (held (a .table .now)) (a .k) S (l .ways) (l .m) i 0) all (l .inv .1) in
@@ -65,4 +71,6 @@ list-ways-spec =
     add-i
     loop-less
     loop-again
-    returns-3)
+    mul-if3
+    returns-3
+    returns-4)
