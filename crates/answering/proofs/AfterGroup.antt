@@ -21,14 +21,14 @@ use Rattle.pairs.specs.Links.{tableRows}
 use Rattle.lent.specs.Records.{firstOf}
 use Rattle.pairs.proofs.LinksRows.{table-counted, accepted-left, accepted-right}
 use Rattle.cutting.specs.declared.Answer.{Answer}
-use Rattle.heaps.specs.Record.{entrySize, cutsOf}
-use Rattle.heaps.specs.Rows.{recordRows}
+use Rattle.cuts.specs.Record.{entrySize, cutsOf}
+use Rattle.replay.specs.Rows.{recordRows}
 use Rattle.cutting.specs.Rows.{labelRow, spaceRow, groupingRows}
 use Rattle.cutting.specs.Calls.{answered, Recorded, Continued, Grouping}
-use Rattle.heaps.proofs.Cuts.{length-cuts}
+use Rattle.cuts.proofs.Cuts.{length-cuts}
 use Rattle.cutting.proofs.Continuing.{Sound, record-sound}
 use Rattle.cutting.proofs.Demands.{own, own-sound}
-use Rattle.heaps.proofs.Lawful.{record-fits, lawful-entries}
+use Rattle.replay.proofs.Lawful.{record-fits, lawful-entries}
 use Rattle.texts.specs.declared.Written.{Written}
 use Rattle.texts.specs.Writers.{resultText, resultRows, refusalLine, Writes}
 use Rattle.texts.proofs.WritesRows.{result-rows}

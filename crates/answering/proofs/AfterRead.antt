@@ -12,7 +12,7 @@ use Rattle.meaning.specs.declared.Judged.{Judged}
 use Rattle.meaning.specs.declared.Judged.the-variants.{Accepted, Refused}
 use Rattle.meaning.specs.Judge.{refuse, first}
 use Rattle.pairs.proofs.LinksRows.{first-accepted, first-refused, accepted-left, accepted-right}
-use Rattle.heaps.specs.Record.{entrySize}
+use Rattle.cuts.specs.Record.{entrySize}
 use Rattle.reading.specs.declared.Reading.{Reading}
 use Rattle.texts.specs.declared.Written.{Written}
 use Rattle.reading.specs.declared.stage.Stage.the-variants.{Opening}

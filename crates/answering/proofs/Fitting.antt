@@ -18,10 +18,10 @@ use Rattle.meaning.specs.Tally.{Tally, pairTally}
 use Rattle.meaning.specs.Heap.{Heap, Cut, start, parted}
 use Rattle.pairs.specs.Links.{linkRows, linksRows, countRows, tableRows}
 use Rattle.pairs.proofs.LinksRows.{table-counted}
-use Rattle.heaps.specs.Record.{entrySize, cutsIn, cutsOf}
-use Rattle.heaps.specs.Rows.{recordRow, recordRows, entryRows, entriesRows}
+use Rattle.cuts.specs.Record.{entrySize, cutsIn, cutsOf}
+use Rattle.replay.specs.Rows.{recordRow, recordRows, entryRows, entriesRows}
 use Rattle.cutting.specs.Rows.{labelRow, spaceRow, groupingRows}
-use Rattle.heaps.proofs.Cuts.{length-cuts}
+use Rattle.cuts.proofs.Cuts.{length-cuts}
 use Rattle.reading.specs.declared.stage.Stage.{Stage}
 use Rattle.reading.specs.declared.stage.Stage.the-variants.{Opening}
 use Rattle.reading.specs.Frame.{wellFormed, isHex, isKind, bytesOf}

@@ -20,8 +20,8 @@ use Rattle.meaning.proofs.Sums.{count-most}
 use Rattle.meaning.proofs.Theorems.{names-are-labels, cuts-and-groups}
 use Rattle.pairs.specs.Links.{tableRows}
 use Rattle.pairs.proofs.LinksRows.{table-counted, accepted-left, accepted-right}
-use Rattle.heaps.specs.Record.{entrySize, cutsOf}
-use Rattle.heaps.proofs.Cuts.{length-cuts}
+use Rattle.cuts.specs.Record.{entrySize, cutsOf}
+use Rattle.cuts.proofs.Cuts.{length-cuts}
 use Rattle.cutting.specs.Rows.{groupingRows}
 use Rattle.reading.specs.Lines.{linesOf}
 use Rattle.reading.specs.Reader.{linksIn, entriesIn, bonesIn, thresholdIn, readerRows, put}

@@ -11,7 +11,7 @@ use Rattle.meaning.specs.declared.Judged.the-variants.{Accepted, Refused}
 use Rattle.meaning.specs.Judge.{refuse, first}
 use Rattle.meaning.specs.Tally.{pairTally}
 use Rattle.meaning.specs.Heap.{start, LawfulRun, left, finished}
-use Rattle.heaps.specs.Record.{entrySize, cutsOf}
+use Rattle.cuts.specs.Record.{entrySize, cutsOf}
 use Rattle.cutting.specs.Rows.{groupingRows}
 use Rattle.texts.specs.declared.Written.{Written}
 use Rattle.reading.specs.Lines.{linesOf}

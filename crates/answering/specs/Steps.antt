@@ -7,7 +7,7 @@ use Rattle.meaning.specs.declared.Link.{Link}
 use Rattle.meaning.specs.Judge.{refuse, first}
 use Rattle.cutting.specs.declared.Answer.{Answer}
 use Rattle.cutting.specs.declared.Answer.the-variants.{Gave, Refused as Refused·answer}
-use Rattle.heaps.specs.Record.{entrySize}
+use Rattle.cuts.specs.Record.{entrySize}
 use Rattle.reading.specs.declared.Reading.{Reading}
 use Rattle.reading.specs.declared.Reading.the-variants.{Got, Refused as Refused·reading}
 use Rattle.texts.specs.declared.Written.{Written}

@@ -1,8 +1,8 @@
 // The program's one function, from bytes to bytes: an input text is read, its bones are grouped, and the result text is written; or the first refusal's
 // frame, alone. The functions over link records are proved by hand, so each only lends, and goes by one answer; numbers are left to covered ones.
+use cuts::record::Record;
 use cutting::Answer;
 use cutting::grouping_records;
-use heaps::record::Record;
 use meaning::Link;
 use reading::Reading;
 use reading::reader::read;
@@ -13,7 +13,7 @@ ghost use mathlib.Core.Path.{_≡_};
 ghost use Prim.Native.Nat.{_*_, _-_};
 ghost use lib.ListN.{length};
 ghost use Rattle.meaning.specs.Judge.{first};
-ghost use Rattle.heaps.specs.Record.{entrySize};
+ghost use Rattle.cuts.specs.Record.{entrySize};
 ghost use Rattle.answering.specs.Prints.{groupedRows, Answers, Answering};
 ghost use Rattle.answering.specs.Steps.{Framed, Refuses, Held, AfterReading, Ready, AfterGrouping};
 

@@ -21,8 +21,8 @@ use Rattle.pairs.proofs.LinksRows.{Counted, table-counted, first-accepted, firs
 use Rattle.pairs.proofs.TableHeld.{table-holds}
 use Rattle.cutting.specs.declared.Answer.{Answer}
 use Rattle.cutting.specs.declared.Answer.the-variants.{Gave, Refused as Refused·answer}
-use Rattle.heaps.specs.Record.{entrySize, cutsOf}
-use Rattle.heaps.specs.Rows.{recordRow, recordRows}
+use Rattle.cuts.specs.Record.{entrySize, cutsOf}
+use Rattle.replay.specs.Rows.{recordRow, recordRows}
 use Rattle.cutting.specs.Rows.{labelRow, spaceRow, checkingRows, groupingRows}
 use Rattle.heaps.specs.Names.{settled, written}
 use Rattle.cutting.specs.Calls.{answered, Checked, Continued, Recorded, Grouped}

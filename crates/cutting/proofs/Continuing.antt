@@ -16,14 +16,15 @@ use Rattle.meaning.specs.Tally.{Tally}
 use Rattle.meaning.specs.Firm.{label, groups}
 use Rattle.meaning.specs.Heap.{Heap, start, LawfulRun, left, piles, finished}
 use Rattle.pairs.specs.Side.{heapOf}
-use Rattle.heaps.specs.Record.{entrySize, cutsIn, cutsOf}
-use Rattle.heaps.specs.Rows.{recordRow, recordRows}
+use Rattle.cuts.specs.Record.{entrySize, cutsIn, cutsOf}
+use Rattle.replay.specs.Rows.{recordRow, recordRows}
 use Rattle.cutting.specs.Finish.{Begun, Ended}
 use Rattle.heaps.specs.Names.{written}
 use Rattle.cutting.specs.Calls.{Continued}
 use Rattle.heaps.proofs.Names.{written-same}
-use Rattle.heaps.proofs.Cuts.{length-cuts, cuts-front, cuts-of}
-use Rattle.heaps.proofs.Lawful.{row-accepted, narrow-cuts, entries-lawful}
+use Rattle.cuts.proofs.Cuts.{length-cuts, cuts-front, cuts-of}
+use Rattle.cuts.proofs.Narrow.{narrow-cuts}
+use Rattle.replay.proofs.Lawful.{row-accepted, entries-lawful}
 use Rattle.cutting.proofs.Finish.{cuts-most, run-labels, run-groups, run-cuts}
 
 -- the empty record begins with one pile of all bones

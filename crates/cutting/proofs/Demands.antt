@@ -22,14 +22,15 @@ use Rattle.pairs.proofs.LinksRows.{Counted, table-counted}
 use Rattle.cutting.specs.declared.Answer.{Answer}
 use Rattle.cutting.specs.declared.Answer.the-variants.{Gave, Refused as Refused·answer}
 use Rattle.cutting.specs.declared.Thinned.{Thinned}
-use Rattle.heaps.specs.Record.{entrySize, cutsOf}
-use Rattle.heaps.specs.Rows.{recordRows, entriesRows}
+use Rattle.cuts.specs.Record.{entrySize, cutsOf}
+use Rattle.replay.specs.Rows.{recordRows, entriesRows}
 use Rattle.cutting.specs.Rows.{checkingRows, groupingRows}
 use Rattle.heaps.specs.Names.{settled, written}
 use Rattle.cutting.specs.Calls.{answered, Checking, Recorded, Continued, Grouping, Thins}
 use Rattle.heaps.proofs.Names.{written-same}
-use Rattle.heaps.proofs.Cuts.{length-cuts}
-use Rattle.heaps.proofs.Lawful.{Stopped, narrow-cuts, entries-lawful, lawful-entries, entries-stop, record-fits}
+use Rattle.cuts.proofs.Cuts.{length-cuts}
+use Rattle.cuts.proofs.Narrow.{narrow-cuts}
+use Rattle.replay.proofs.Lawful.{Stopped, entries-lawful, lawful-entries, entries-stop, record-fits}
 use Rattle.cutting.proofs.Finish.{cuts-most, run-labels, run-groups, run-cuts}
 use Rattle.cutting.proofs.Carried.{checking-core, grouping-core, label-fits, space-fits}
 use Rattle.cutting.proofs.Continuing.{Sound}

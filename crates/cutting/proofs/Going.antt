@@ -17,11 +17,11 @@ use Rattle.meaning.proofs.Runs.{left-append, run-append}
 use Rattle.pairs.specs.Side.{heapOf}
 use Rattle.weighing.specs.declared.search.Split.{Split}
 use Rattle.weighing.specs.Search.{FirmPiles, Searched, cutOf as splitCut}
-use Rattle.heaps.specs.declared.record.Entry.{Entry}
-use Rattle.heaps.specs.Record.{entrySize, entryBytes, entryPut, cutOf, cutsIn}
+use Rattle.cuts.specs.declared.record.Entry.{Entry}
+use Rattle.cuts.specs.Record.{entrySize, entryBytes, entryPut, cutOf, cutsIn}
 use Rattle.cutting.specs.Finish.{Begun, Ended}
-use Rattle.heaps.proofs.Entries.{put-whole, length-bytes, length-put, take-put}
-use Rattle.heaps.proofs.Cuts.{length-cuts, cuts-put}
+use Rattle.cuts.proofs.Entries.{put-whole, length-bytes, length-put, take-put}
+use Rattle.cuts.proofs.Cuts.{length-cuts, cuts-put}
 use Rattle.cutting.proofs.Finish.{firm-finished, firm-stays, reached, cuts-room}
 
 -- a lawful cut, of the first pile named `from` or more that has one

@@ -13,11 +13,11 @@ use Rattle.pairs.specs.Links.{tableRows}
 use Rattle.pairs.specs.Table.{held, filled}
 use Rattle.pairs.proofs.LinksBytes.{Short}
 use Rattle.cutting.specs.declared.Answer.{Answer}
-use Rattle.heaps.specs.Rows.{recordRows}
+use Rattle.replay.specs.Rows.{recordRows}
 use Rattle.cutting.specs.Rows.{labelRow, spaceRow}
 use Rattle.heaps.specs.Names.{settled, written}
 use Rattle.cutting.specs.Calls.{answered, Checked, Checking, Recorded, Grouped, Grouping}
-use Rattle.heaps.specs.Record.{cutsOf}
+use Rattle.cuts.specs.Record.{cutsOf}
 use Rattle.meaning.specs.Tally.{pairTally}
 use Rattle.meaning.specs.Heap.{start, left, piles, finished}
 use Rattle.meaning.specs.Firm.{label, groups}

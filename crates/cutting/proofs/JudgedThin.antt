@@ -21,7 +21,7 @@ use Rattle.pairs.specs.Side.{heapOf}
 use Rattle.pairs.specs.Table.{held, filled}
 use Rattle.pairs.proofs.LinksBytes.{Short}
 use Rattle.pairs.proofs.LinksRows.{never-both, table-counted, table-proper}
-use Rattle.heaps.proofs.Lawful.{row-accepted}
+use Rattle.replay.proofs.Lawful.{row-accepted}
 use Rattle.cutting.specs.Rows.{linkRow, thinningRows}
 use Rattle.cutting.specs.Thin.{refused}
 use Rattle.cutting.specs.Calls.{over, keeping, ThinningRecords}

@@ -1,9 +1,9 @@
 // Checking: a record is judged, and the piles that it leaves are told. The part above the filled table serves every form of links.
 use crate::Answer;
 use heaps::count_piles;
-use heaps::judge_record;
 use heaps::write_names;
 use meaning::Judged;
+use replay::judge_record;
 use weighing::fill;
 use weighing::search::search;
 ghost use mathlib.Core.Path.{_≡_};
@@ -14,7 +14,7 @@ ghost use Rattle.meaning.specs.Heap.{piles, finished as finishedRun};
 ghost use Rattle.pairs.specs.Links.{whole, linksOf};
 ghost use Rattle.pairs.specs.Side.{heapOf};
 ghost use Rattle.pairs.specs.Table.{held};
-ghost use Rattle.heaps.specs.Rows.{recordRows};
+ghost use Rattle.replay.specs.Rows.{recordRows};
 ghost use Rattle.cutting.specs.Rows.{labelRow};
 ghost use Rattle.heaps.specs.Names.{written};
 ghost use Rattle.cutting.specs.Calls.{Checked, Checking};

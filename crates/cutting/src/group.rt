@@ -1,15 +1,15 @@
 // Grouping: a record is judged, and lawful cuts are added until every pile is firm. The part above the filled table serves every form of
 // links.
 use crate::Answer;
+use cuts::record::Entry;
+use cuts::record::Record;
+use cuts::record::copy;
+use cuts::record::write;
 use heaps::count_piles;
-use heaps::judge_record;
 use heaps::part;
-use heaps::record::Entry;
-use heaps::record::Record;
-use heaps::record::copy;
-use heaps::record::write;
 use heaps::write_names;
 use meaning::Judged;
+use replay::judge_record;
 use weighing::fill;
 use weighing::search::Split;
 use weighing::search::search;
@@ -26,8 +26,8 @@ ghost use Rattle.pairs.specs.Links.{whole, linksOf};
 ghost use Rattle.pairs.specs.Side.{heapOf};
 ghost use Rattle.pairs.specs.Table.{held};
 ghost use Rattle.weighing.specs.Search.{cutOf as splitCut};
-ghost use Rattle.heaps.specs.Record.{entrySize, cutOf, cutsOf};
-ghost use Rattle.heaps.specs.Rows.{recordRows};
+ghost use Rattle.cuts.specs.Record.{entrySize, cutOf, cutsOf};
+ghost use Rattle.replay.specs.Rows.{recordRows};
 ghost use Rattle.cutting.specs.Rows.{labelRow, spaceRow};
 ghost use Rattle.cutting.specs.Finish.{Begun, Ended};
 ghost use Rattle.heaps.specs.Names.{written};

@@ -6,8 +6,8 @@ mod records;
 mod thin;
 
 pub use check::checking;
+pub use cuts::record;
 pub use group::grouping;
-pub use heaps::record;
 pub use records::checking_records;
 pub use records::grouping_records;
 pub use records::thinning_records;

@@ -19,7 +19,7 @@ ghost use Rattle.meaning.specs.Judge.{first};
 ghost use Rattle.meaning.specs.Firm.{label};
 ghost use Rattle.pairs.specs.Side.{heapOf};
 ghost use Rattle.pairs.specs.Table.{held};
-ghost use Rattle.heaps.specs.Rows.{recordRows};
+ghost use Rattle.replay.specs.Rows.{recordRows};
 ghost use Rattle.cutting.specs.Rows.{labelRow, spaceRow, linkRow};
 ghost use Rattle.cutting.specs.Thin.{refused};
 ghost use Rattle.cutting.specs.Calls.{Checked, Checking, Grouped, Grouping, keeping, ThinningRecords};

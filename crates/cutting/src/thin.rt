@@ -1,8 +1,8 @@
 // Thinning: the links whose ends share a group stay.
 use crate::Thinned;
 use crate::group::finish;
-use heaps::record::Record;
-use heaps::record::copy;
+use cuts::record::Record;
+use cuts::record::copy;
 use meaning::Judged;
 use weighing::fill;
 ghost use mathlib.Core.Path.{_≡_};

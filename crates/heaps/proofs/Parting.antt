@@ -15,9 +15,9 @@ use Rattle.meaning.specs.Heap.{Heap, start, Cut, parted, left}
 use Rattle.meaning.proofs.Tests.{decide, is-true, is-false}
 use Rattle.meaning.proofs.Sets.{some-intro, some-elim, least-is}
 use Rattle.pairs.specs.Side.{heapOf}
-use Rattle.heaps.specs.Record.{entrySize, cutsOf}
+use Rattle.cuts.specs.Record.{entrySize, cutsOf}
 use Rattle.heaps.specs.Names.{settled, names}
-use Rattle.heaps.proofs.Lawful.{Narrow, Narrows, narrow-cuts}
+use Rattle.cuts.proofs.Narrow.{Narrow, Narrows, narrow-cuts}
 use Rattle.heaps.proofs.Names.{length-names, Within, heap-within, heap-of-names}
 
 -- the least bone of a side: the first that is on it; and n where none is

@@ -1,7 +1,7 @@
 // A heap as names: each bone's pile name, the pile's least bone. Bones from n on have names that nothing looks at. A bone count over 128
 // means 128.
-use crate::lesser;
-use crate::record::Entry;
+use cuts::lesser;
+use cuts::record::Entry;
 use pairs::in_side;
 ghost use mathlib.Core.Path.{_≡_};
 ghost use mathlib.Core.Bool.{cond};
@@ -11,7 +11,7 @@ ghost use lib.ListN.{getD};
 ghost use Rattle.meaning.specs.Count.{least};
 ghost use Rattle.meaning.specs.Heap.{parted, piles};
 ghost use Rattle.pairs.specs.Side.{heapOf, sideOf};
-ghost use Rattle.heaps.specs.Record.{cutOf};
+ghost use Rattle.cuts.specs.Record.{cutOf};
 ghost use Rattle.heaps.specs.Names.{names as namesOf, written};
 
 // The least bone on a side, n where none of the first n is.

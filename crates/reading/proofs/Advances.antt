@@ -12,7 +12,7 @@ use Rattle.meaning.specs.declared.Judged.{Judged}
 use Rattle.meaning.specs.declared.Judged.the-variants.{Accepted, Refused}
 use Rattle.meaning.specs.Judge.{first}
 use Rattle.meaning.proofs.Tests.{holds, fails}
-use Rattle.heaps.specs.Record.{entrySize}
+use Rattle.cuts.specs.Record.{entrySize}
 use Rattle.reading.specs.declared.Reading.the-variants.{Got, Refused as Refused·reading}
 use Rattle.reading.specs.declared.frame.Frame.{Frame}
 use Rattle.reading.specs.declared.stage.Stage.{Stage}

@@ -14,7 +14,7 @@ use Rattle.meaning.specs.declared.Judged.{Judged}
 use Rattle.meaning.specs.declared.Judged.the-variants.{Accepted, Refused}
 use Rattle.meaning.specs.Judge.{refuse, first}
 use Rattle.meaning.proofs.Tests.{both, left-of, right-of, is-true, is-false, eq→eqb, ne→neqb}
-use Rattle.heaps.specs.Record.{entrySize}
+use Rattle.cuts.specs.Record.{entrySize}
 use Rattle.reading.specs.declared.stage.Stage.{Stage}
 use Rattle.reading.specs.declared.stage.Stage.the-variants.{Opening, Linking, Cutting, Closed}
 use Rattle.reading.specs.Frame.{payloads, byteSum, bytesOf, wellFormed}

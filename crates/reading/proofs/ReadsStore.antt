@@ -14,7 +14,7 @@ use lib.ListN.{length, getD, set, take, drop, length-append, length-take, length
 use lib.Seq.{length-take-le, drop-drop, drop-cons, append-snoc, set-at, ext-getD, getD-at}
 use Rattle.meaning.proofs.Tests.{both, left-of, right-of}
 use Rattle.meaning.specs.declared.Link.{Link}
-use Rattle.heaps.specs.Record.{entrySize}
+use Rattle.cuts.specs.Record.{entrySize}
 use Rattle.reading.specs.Frame.{payloads, wellFormed}
 use Rattle.reading.specs.Lines.{Line, linesOf, kind}
 use Rattle.reading.specs.Reader.{linkIn, entryIn, linksIn, entriesIn}

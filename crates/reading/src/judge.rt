@@ -11,7 +11,7 @@ ghost use Rattle.reading.specs.Judging.{LineJudged, Stands, Ready, Advan
 use crate::Reading;
 use crate::frame::Frame;
 use crate::stage::Stage;
-use heaps::record::Record;
+use cuts::record::Record;
 
 // How far judging has come: the place in the text, the line, the stage, the head's numbers, and the links and cuts so far.
 pub(crate) struct Progress {

@@ -5,7 +5,7 @@ ghost use Prim.Native.Nat.{_+_, _*_, _<_, _≤_};
 ghost use lib.Dec.{T};
 ghost use lib.ListN.{length, getD, take, drop};
 ghost use Rattle.lent.specs.Records.{noLink};
-ghost use Rattle.heaps.specs.Record.{entrySize};
+ghost use Rattle.cuts.specs.Record.{entrySize};
 ghost use Rattle.reading.specs.Lines.{linesOf};
 ghost use Rattle.reading.specs.Reader.{linksIn, entriesIn};
 ghost use Rattle.reading.specs.Walk.{byteAt, sizeAt, Well};
@@ -16,7 +16,7 @@ use crate::frame::byte_at;
 use crate::frame::kind_at;
 use crate::frame::number_at;
 use crate::frame::payload;
-use heaps::record::Record;
+use cuts::record::Record;
 use meaning::Link;
 
 // The place behind the frame at a place.

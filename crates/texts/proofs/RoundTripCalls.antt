@@ -16,8 +16,8 @@ use Rattle.meaning.specs.Judge.{refuse, first}
 use Rattle.meaning.proofs.Tests.{fails, decide, taut, so, _⊃_}
 use Rattle.pairs.specs.Links.{countRows, linksRows, tableRows}
 use Rattle.pairs.proofs.LinksRows.{first-accepted, accepted-left, accepted-right, Counted, counts-accepted}
-use Rattle.heaps.specs.Record.{entrySize}
-use Rattle.heaps.specs.Rows.{recordRow}
+use Rattle.cuts.specs.Record.{entrySize}
+use Rattle.replay.specs.Rows.{recordRow}
 use Rattle.reading.specs.declared.Reading.{Reading}
 use Rattle.reading.specs.declared.Reading.the-variants.{Got}
 use Rattle.texts.specs.declared.Written.{Written}

@@ -10,7 +10,7 @@ use Rattle.meaning.specs.declared.Link.{Link}
 use Rattle.meaning.specs.declared.Judged.{Judged}
 use Rattle.meaning.specs.declared.Judged.the-variants.{Accepted}
 use Rattle.meaning.specs.Judge.{first}
-use Rattle.heaps.specs.Record.{entrySize}
+use Rattle.cuts.specs.Record.{entrySize}
 use Rattle.reading.specs.declared.Reading.{Reading}
 use Rattle.reading.specs.declared.Reading.the-variants.{Got}
 use Rattle.texts.specs.declared.Written.{Written}

@@ -15,8 +15,8 @@ use Rattle.meaning.specs.Judge.{refuse, first}
 use Rattle.pairs.specs.Links.{tableRows}
 use Rattle.lent.specs.Records.{firstOf}
 use Rattle.pairs.proofs.LinksRows.{table-counted}
-use Rattle.heaps.specs.Record.{entrySize}
-use Rattle.heaps.specs.Rows.{recordRow}
+use Rattle.cuts.specs.Record.{entrySize}
+use Rattle.replay.specs.Rows.{recordRow}
 use Rattle.texts.specs.declared.Written.{Written}
 use Rattle.texts.specs.declared.Written.the-variants.{Bytes, Refused as Refused·written}
 use Rattle.reading.specs.Reader.{put}

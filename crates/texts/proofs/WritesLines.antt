@@ -9,7 +9,7 @@ use lib.ListN.{length, getD, take, drop, length-append, length-drop}
 use lib.Seq.{length-take-le, drop-drop}
 use Rattle.meaning.specs.declared.Link.{Link}
 use Rattle.meaning.specs.Heap.{Heap}
-use Rattle.heaps.specs.Record.{entrySize}
+use Rattle.cuts.specs.Record.{entrySize}
 use Rattle.reading.specs.Frame.{line}
 use Rattle.texts.specs.Writers.{two, headLine, linkLine, linkLines, cutLines, labelLine, labelLines, closeLine, refusalLine}
 use Rattle.texts.specs.Writing.{over}

@@ -18,9 +18,9 @@ use Rattle.lent.specs.Records.{firstOf}
 use Rattle.pairs.specs.Table.{held, filled}
 use Rattle.pairs.proofs.LinksBytes.{Short}
 use Rattle.heaps.specs.Names.{settled, names as namesOf}
-use Rattle.heaps.specs.Record.{cutsOf}
-use Rattle.heaps.specs.Rows.{recordRows}
-use Rattle.heaps.proofs.Lawful.{few-rows}
+use Rattle.cuts.specs.Record.{cutsOf}
+use Rattle.replay.specs.Rows.{recordRows}
+use Rattle.replay.proofs.Lawful.{few-rows}
 use Rattle.heaps.proofs.Parting.{judged-names}
 use Rattle.cutting.proofs.Carried.{rows-alike, filled-alike}
 use Rattle.cutting.proofs.Continuing.{record-sound}

@@ -16,8 +16,8 @@ use Rattle.meaning.proofs.Tests.{taut, so, _⊃_}
 use Rattle.meaning.specs.Tally.{pairTally}
 use Rattle.pairs.specs.Links.{tableRows}
 use Rattle.lent.specs.Records.{firstOf}
-use Rattle.heaps.specs.Record.{entrySize}
-use Rattle.heaps.specs.Rows.{recordRow, recordRows}
+use Rattle.cuts.specs.Record.{entrySize}
+use Rattle.replay.specs.Rows.{recordRow, recordRows}
 use Rattle.texts.specs.declared.Written.{Written}
 use Rattle.texts.specs.declared.Written.the-variants.{Bytes, Refused as Refused·written}
 use Rattle.reading.specs.Reader.{put}

@@ -12,7 +12,7 @@ use Rattle.meaning.specs.declared.Link.{Link}
 use Rattle.meaning.specs.Judge.{refuse}
 use Rattle.meaning.specs.Heap.{Heap, start, left}
 use Rattle.pairs.specs.Side.{heapOf}
-use Rattle.heaps.specs.Record.{entrySize, cutsOf}
+use Rattle.cuts.specs.Record.{entrySize, cutsOf}
 use Rattle.texts.specs.declared.Written.the-variants.{Bytes, Refused}
 use Rattle.reading.specs.Reader.{put}
 use Rattle.texts.specs.Writers.{headLine, linkLines, cutLines, labelLines, closeLine, inputText, resultText, wrote, Writes}

@@ -12,8 +12,8 @@ use Rattle.meaning.specs.Judge.{refuse, first}
 use Rattle.meaning.specs.Tally.{pairTally}
 use Rattle.meaning.specs.Heap.{Heap, start, left}
 use Rattle.pairs.specs.Links.{tableRows}
-use Rattle.heaps.specs.Record.{entrySize, cutsOf}
-use Rattle.heaps.specs.Rows.{recordRow, recordRows}
+use Rattle.cuts.specs.Record.{entrySize, cutsOf}
+use Rattle.replay.specs.Rows.{recordRow, recordRows}
 use Rattle.texts.specs.declared.Written.{Written}
 use Rattle.texts.specs.declared.Written.the-variants.{Bytes, Refused as Refused·written}
 use Rattle.reading.specs.Frame.{line}

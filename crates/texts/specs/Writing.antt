@@ -9,8 +9,8 @@ use Rattle.meaning.specs.declared.Judged.the-variants.{Accepted, Refused}
 use Rattle.meaning.specs.Judge.{refuse}
 use Rattle.meaning.specs.Heap.{start, left}
 use Rattle.pairs.specs.Side.{heapOf}
-use Rattle.heaps.specs.Record.{entrySize, cutsOf}
-use Rattle.heaps.specs.Rows.{recordRow}
+use Rattle.cuts.specs.Record.{entrySize, cutsOf}
+use Rattle.replay.specs.Rows.{recordRow}
 use Rattle.texts.specs.declared.Written.{Written}
 use Rattle.texts.specs.declared.Written.the-variants.{Bytes, Refused as Refused·written}
 use Rattle.texts.specs.Writers.{headLine, cutLines, closeLine, wrote}

@@ -6,7 +6,7 @@ ghost use mathlib.Core.Path.{_≡_};
 ghost use Prim.Native.Nat.{_+_, _*_, _/_, _%_, _≤_, _<_};
 ghost use lib.ListN.{length};
 ghost use Rattle.pairs.specs.Side.{heapOf};
-ghost use Rattle.heaps.specs.Record.{entrySize};
+ghost use Rattle.cuts.specs.Record.{entrySize};
 ghost use Rattle.texts.specs.Writers.{headLine, linkLine, cutLines, labelLine, labelLines, closeLine, refusalLine};
 ghost use Rattle.texts.specs.Writing.{over};
 

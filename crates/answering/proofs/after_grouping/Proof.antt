@@ -47,7 +47,7 @@ use Rattle.lent.proofs.RecordsCalls.{calls-plain}
 use Rattle.lent.proofs.RecordsRead.{Own}
 use Rattle.cutting.specs.declared.Answer.{Answer}
 use Rattle.cutting.specs.declared.Answer.the-variants.{Gave, Refused}
-use Rattle.heaps.specs.Record.{entrySize}
+use Rattle.cuts.specs.Record.{entrySize}
 use Rattle.texts.specs.declared.Written.{Written}
 use Rattle.texts.specs.Writers.{resultText, resultRows, Writes}
 use Rattle.texts.proofs.WritesAnswer.{Wn, typed-held}

@@ -44,7 +44,7 @@ use Rattle.meaning.specs.Judge.{first as first-of}
 use Rattle.lent.proofs.RecordsLink.{R, vals, tells, copied}
 use Rattle.lent.proofs.RecordsCalls.{calls-plain}
 use Rattle.lent.proofs.RecordsRead.{Own}
-use Rattle.heaps.specs.Record.{entrySize}
+use Rattle.cuts.specs.Record.{entrySize}
 use Rattle.reading.specs.declared.Reading.{Reading}
 use Rattle.reading.specs.declared.Reading.the-variants.{Got, Refused}
 use Rattle.texts.specs.declared.Written.{Written}

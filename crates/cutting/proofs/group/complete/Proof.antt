@@ -10,9 +10,9 @@ use Rattle.meaning.specs.Heap.{piles}
 use Rattle.pairs.specs.Side.{heapOf}
 use Rattle.pairs.specs.Table.{held}
 use Rattle.heaps.specs.Names.{written}
-use Rattle.heaps.proofs.Entries.{paste-fits}
+use Rattle.cuts.proofs.Entries.{paste-fits}
 use Rattle.cutting.specs.declared.Answer.the-variants.{Gave}
-use Rattle.heaps.specs.Record.{entrySize}
+use Rattle.cuts.specs.Record.{entrySize}
 use Rattle.cutting.specs.Finish.{Begun, Ended}
 use Rattle.cutting.proofs.Continuing.{record-sound, given-begins, ended-continued, ended-labels, ended-groups}
 use borrow.Author.Needs.{needs}

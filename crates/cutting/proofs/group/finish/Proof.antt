@@ -9,8 +9,8 @@ use borrow.Author.Tests.{not-true, not-false}
 use Rattle.pairs.specs.Side.{heapOf}
 use Rattle.pairs.specs.Table.{held}
 use Rattle.weighing.specs.Search.{cutOf as splitCut}
-use Rattle.heaps.specs.Record.{cutOf}
-use Rattle.heaps.proofs.Lawful.{narrow-entry}
+use Rattle.cuts.specs.Record.{cutOf}
+use Rattle.cuts.proofs.Narrow.{narrow-entry}
 use Rattle.heaps.proofs.Parting.{parted-names}
 use Rattle.cutting.proofs.Going.{Found, searched-light, searched-none, Going, going-start, going-room, going-next, going-end}
 use Rattle.cutting.proofs.group.finish.Statement.{statement}

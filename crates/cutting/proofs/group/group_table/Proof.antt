@@ -2,8 +2,8 @@
 use mathlib.Core.Path.{_≡_, sym, _∙_}
 use Rattle.meaning.specs.Judge.{first}
 use Rattle.pairs.specs.Table.{held}
-use Rattle.heaps.specs.Rows.{recordRows}
-use Rattle.heaps.proofs.Lawful.{few-rows}
+use Rattle.replay.specs.Rows.{recordRows}
+use Rattle.replay.proofs.Lawful.{few-rows}
 use Rattle.heaps.proofs.Parting.{judged-names}
 use Rattle.cutting.proofs.Carried.{label-short, label-fits, space-short, space-fits, grouped-refused, grouped-accepted}
 use borrow.Author.Needs.{needs}

@@ -57,7 +57,7 @@ use Rattle.lent.proofs.records.fill_records.Symbol as fill-def
 use Rattle.lent.proofs.records.fill_records.Symbol.{name as #fill-records}
 use Rattle.lent.proofs.records.fill_records.Met as fill-thm
 use Rattle.cutting.specs.declared.Answer.{Answer}
-use Rattle.heaps.specs.Rows.{recordRows}
+use Rattle.replay.specs.Rows.{recordRows}
 use Rattle.cutting.specs.Rows.{labelRow, spaceRow}
 use Rattle.cutting.specs.Calls.{Grouped, Grouping}
 use Rattle.cutting.proofs.Judged.{judged-fits, judged-grouping}

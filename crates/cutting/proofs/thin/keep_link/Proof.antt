@@ -6,7 +6,7 @@ use lib.ListN.{length, take, drop, length-take, length-drop}
 use lib.Seq.{paste}
 use borrow.Author.Tests.{not-true, not-false}
 use Rattle.pairs.specs.Links.{linkAt}
-use Rattle.heaps.proofs.Entries.{paste-fits}
+use Rattle.cuts.proofs.Entries.{paste-fits}
 use Rattle.cutting.proofs.Keeping.{keeps-not, keeps-it, same-bones}
 use borrow.Author.Needs.{needs}
 use Rattle.cutting.proofs.thin.keep_link.Statement.{statement}

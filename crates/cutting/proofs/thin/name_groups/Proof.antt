@@ -3,7 +3,7 @@ use Prim.Native.Nat.{ℕ, _*_}
 use mathlib.Core.Path.{refl}
 use native.Mathlib.Omega.{arith}
 use lib.ListN.{length-replicate}
-use Rattle.heaps.specs.Record.{entrySize}
+use Rattle.cuts.specs.Record.{entrySize}
 use Rattle.heaps.proofs.Parting.{heap-start}
 use Rattle.cutting.proofs.Continuing.{empty-begins, ended-label}
 use borrow.Author.Needs.{needs}

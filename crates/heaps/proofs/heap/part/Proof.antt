@@ -9,7 +9,7 @@ use borrow.Author.Needs.{needs}
 use Rattle.meaning.specs.Heap.{Heap, parted}
 use Rattle.pairs.specs.Side.{heapOf, sideOf}
 use Rattle.pairs.proofs.Sides.{on-side}
-use Rattle.heaps.specs.Record.{cutOf}
+use Rattle.cuts.specs.Record.{cutOf}
 use Rattle.heaps.specs.Names.{names, written}
 use Rattle.heaps.proofs.Names.{written-none, written-next, written-all}
 use Rattle.heaps.proofs.heap.part.Statement.{statement}

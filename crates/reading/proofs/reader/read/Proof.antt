@@ -41,7 +41,7 @@ use Rattle.meaning.specs.declared.Link.{Link}
 use Rattle.meaning.specs.Judge.{first as first-of}
 use Rattle.lent.proofs.RecordsLink.{R}
 use Rattle.lent.proofs.RecordsCalls.{calls-to, calls-plain, calls-over}
-use Rattle.heaps.specs.Record.{entrySize}
+use Rattle.cuts.specs.Record.{entrySize}
 use Rattle.reading.specs.declared.Reading.{Reading}
 use Rattle.reading.specs.Lines.{linesOf}
 use Rattle.reading.specs.Reader.{linksIn, entriesIn, readerRows, read as reads}

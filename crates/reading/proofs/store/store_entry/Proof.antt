@@ -4,7 +4,7 @@ use mathlib.Core.Path.{_≡_, sym, _∙_, ap}
 use native.Mathlib.Omega.{arith}
 use lib.ListN.{length, drop, set, length-set}
 use borrow.Author.Needs.{needs}
-use Rattle.heaps.specs.Record.{entrySize}
+use Rattle.cuts.specs.Record.{entrySize}
 use Rattle.reading.proofs.Walks.{within}
 use Rattle.reading.proofs.ReadsStore.{stored, stored-none, stored-more, stored-length}
 use Rattle.reading.proofs.store.store_entry.Statement.{statement}

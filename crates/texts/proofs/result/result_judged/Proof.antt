@@ -1,6 +1,6 @@
 -- `result::result_judged` meets its contract, by cases on what was judged. Assumes nothing.
 use borrow.Author.Needs.{needs}
-use Rattle.heaps.proofs.Lawful.{few-rows}
+use Rattle.replay.proofs.Lawful.{few-rows}
 use Rattle.texts.proofs.WritesRows.{writes-refused}
 use Rattle.texts.proofs.WritesResult.{firstOf-refused, writes-judged, judged-named}
 use Rattle.texts.proofs.result.result_judged.Statement.{statement}

@@ -57,7 +57,7 @@ use Rattle.lent.proofs.RecordsFill.{FillRecords, calls-fill}
 use Rattle.lent.proofs.records.fill_records.Symbol as fill-def
 use Rattle.lent.proofs.records.fill_records.Symbol.{name as #fill-records}
 use Rattle.lent.proofs.records.fill_records.Met as fill-thm
-use Rattle.heaps.specs.Rows.{recordRows}
+use Rattle.replay.specs.Rows.{recordRows}
 use Rattle.cutting.proofs.Judged.{judged-fits}
 use Rattle.texts.specs.declared.Written.{Written}
 use Rattle.texts.specs.Writers.{resultText, resultRows, Writes}

@@ -1,0 +1,2 @@
+-- What the promises of the record of cuts cite.
+pub mod Record

@@ -1,0 +1,2 @@
+-- The laws of a replay.
+pub mod Lawful

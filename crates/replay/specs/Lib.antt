@@ -1,0 +1,3 @@
+-- What the promise of a replay cites.
+pub mod Rows
+pub mod Replay
