@@ -39,15 +39,15 @@ use Rattle.meaning.specs.declared.Judged.{Judged}
 use Rattle.meaning.specs.declared.Judged.the-variants.{Accepted}
 use Rattle.meaning.specs.Judge.{first}
 use Rattle.meaning.specs.Firm.{label}
-use Rattle.lent.specs.Records.{keptLinks, written}
+use Rattle.placed.specs.Records.{keptLinks, written}
 use Rattle.pairs.specs.Side.{heapOf}
 use Rattle.pairs.specs.Table.{held}
-use Rattle.lent.proofs.RecordsLink.{R, J, told, IsJudged, told-so, made-judged}
+use Rattle.placed.proofs.RecordsLink.{R, J, told, IsJudged, told-so, made-judged}
 use Rattle.lent.proofs.RecordsCalls.{calls-to}
 use Rattle.lent.proofs.RecordsRead.{Own}
 use Rattle.lent.proofs.RecordsTable.{Table}
-use Rattle.lent.proofs.records.keep_links as keeps
-use Rattle.lent.proofs.records.keep_links.Symbol.{name as #keep-links}
+use Rattle.lent.proofs.keep_links as keeps
+use Rattle.lent.proofs.keep_links.Symbol.{name as #keep-links}
 use Rattle.cutting.specs.Rows.{linkRow}
 use Rattle.cutting.proofs.RecordsLabels.{Labels}
 use Rattle.cutting.proofs.records.label_judged as labels

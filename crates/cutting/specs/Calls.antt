@@ -16,7 +16,7 @@ use Rattle.cutting.specs.declared.Answer.{Answer}
 use Rattle.cutting.specs.declared.Answer.the-variants.{Gave, Refused as Refused·answer}
 use Rattle.cutting.specs.declared.Thinned.{Thinned}
 use Rattle.cutting.specs.declared.Thinned.the-variants.{Kept, Refused as Refused·thinned}
-use Rattle.lent.specs.Records.{keptLinks}
+use Rattle.placed.specs.Records.{keptLinks}
 use Rattle.cuts.specs.Record.{entrySize, cutsOf}
 use Rattle.heaps.specs.Names.{settled, names, written}
 use Rattle.cutting.specs.Rows.{checkingRows, groupingRows, thinningRows}

@@ -14,7 +14,7 @@ ghost use Rattle.meaning.specs.declared.Judged.the-variants.{Accepted};
 ghost use Rattle.meaning.specs.Judge.{first};
 ghost use Rattle.meaning.specs.Firm.{label};
 ghost use Rattle.pairs.specs.Links.{whole, linksOf, linkAt, linksRows};
-ghost use Rattle.lent.specs.Records.{sameLabel, keptLinks};
+ghost use Rattle.placed.specs.Records.{sameLabel, keptLinks};
 ghost use Rattle.pairs.specs.Side.{heapOf};
 ghost use Rattle.pairs.specs.Table.{held};
 ghost use Rattle.cutting.specs.Rows.{linkRow};

@@ -1,7 +1,5 @@
 -- The laws of link records, and the walks over a run of them.
 pub mod RecordsRows
-pub mod RecordsKept
-pub mod RecordsLink
 pub mod RecordsCalls
 pub mod RecordsRead
 pub mod RecordsShort

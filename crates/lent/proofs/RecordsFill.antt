@@ -37,12 +37,12 @@ use Rattle.meaning.specs.declared.Judged.{Judged}
 use Rattle.meaning.specs.Judge.{first}
 use Rattle.pairs.specs.Links.{tableRows}
 use Rattle.pairs.specs.Table.{filled}
-use Rattle.lent.proofs.RecordsLink.{R, J, told, IsJudged, told-so}
+use Rattle.placed.proofs.RecordsLink.{R, J, told, IsJudged, told-so}
 use Rattle.lent.proofs.RecordsCalls.{calls-to}
 use Rattle.lent.proofs.RecordsRead.{Own}
 use Rattle.lent.proofs.RecordsTable.{Table, OwnTable}
-use Rattle.lent.proofs.records.fill_records as f
-use Rattle.lent.proofs.records.fill_records.Symbol.{name as #fill-records}
+use Rattle.lent.proofs.fill_records as f
+use Rattle.lent.proofs.fill_records.Symbol.{name as #fill-records}
 
 module _ {M : Type 1} (𝓤 : URA M) (H : Heap 𝓤) (A : Atoms 𝓤) (mem : Memory → SProp 𝓤) (run : Routine → Fun 𝓤) where
   abbrev pub FillRecords : Contract 𝓤

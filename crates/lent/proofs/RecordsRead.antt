@@ -33,13 +33,13 @@ use denote.Triple.Spec.{tripleOf}
 use denote.Triple.Clauses.{Clauses, Ended, Lasts, atExit, closing}
 use denote.Triple.Walked.{says}
 use Rattle.meaning.specs.declared.Link.{Link}
-use Rattle.lent.specs.Records.{noLink}
-use Rattle.lent.proofs.RecordsLink.{R, val, IsLink, tells}
+use Rattle.placed.specs.Records.{noLink}
+use Rattle.placed.proofs.RecordsLink.{R, val, IsLink, tells}
 use Rattle.lent.proofs.RecordsCalls.{calls-over}
-use Rattle.lent.proofs.records.link_at as link-at
-use Rattle.lent.proofs.records.link_at.Symbol.{name as #link-at}
-use Rattle.lent.proofs.records.link_of as link-of
-use Rattle.lent.proofs.records.link_of.Symbol.{name as #link-of}
+use Rattle.placed.proofs.link_at as link-at
+use Rattle.placed.proofs.link_at.Symbol.{name as #link-at}
+use Rattle.lent.proofs.link_of as link-of
+use Rattle.lent.proofs.link_of.Symbol.{name as #link-of}
 
 abbrev pub Own : Lft → RefT (List Link) → Fml
 Own κ x = ShrSlice (named 0) κ R .own x (slice-vals x)

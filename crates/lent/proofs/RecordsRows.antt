@@ -17,7 +17,8 @@ use Rattle.meaning.specs.declared.Judged.the-variants.{Accepted, Refused}
 use Rattle.meaning.specs.Judge.{refuse, first}
 use Rattle.pairs.specs.Links.{linkRows, linksRows, countRows, tableRows}
 use Rattle.pairs.specs.Table.{added, tallied, filled}
-use Rattle.lent.specs.Records.{noLink, firstOf, upTo, refusedOne, refusedLinks, toJudge}
+use Rattle.placed.proofs.RecordsKept.{take-next}
+use Rattle.placed.specs.Records.{noLink, firstOf, upTo, refusedOne, refusedLinks, toJudge}
 use Rattle.pairs.proofs.TableAdds.{tallied-append}
 use Rattle.pairs.proofs.LinksRows.{counts-accepted, Proper, Propers, links-accepted, links-proper, propers-more, table-counted, table-proper}
 
@@ -65,9 +66,6 @@ links-last n i (k ∷ ls) l =
     ∙ sym (firstOf-assoc (first (linkRows n i k)) (first (linksRows n (suc i) ls)) (first (linkRows n (suc i + length ls) l)))
     ∙ ap (λ (j : Judged). firstOf j (first (linkRows n (suc i + length ls) l))) (sym (first-append (linkRows n i k) (linksRows n (suc i) ls)))
     ∙ ap (λ (m : ℕ). firstOf (first (linkRows n i k ++ linksRows n (suc i) ls)) (first (linkRows n m l))) (suc-add i (length ls) ∙ sym (add-suc i (length ls)))
-
-pub take-next : (links : List Link) (i : ℕ) → i < length links → take (i + 1) links ≡ take i links ++ getD links i noLink ∷ []
-take-next links i h = rw add-one (take-suc links i noLink h)
 
 -- judging the first i links of a run, after rows 1, 2 and 3 gave `counts`
 unfoldable pub soFar : ℕ → Judged → List Link → ℕ → Judged

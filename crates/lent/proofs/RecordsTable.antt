@@ -31,10 +31,10 @@ use denote.Triple.Spec.{tripleOf}
 use denote.Triple.Walked.{says}
 use Rattle.meaning.specs.declared.Link.{Link}
 use Rattle.pairs.specs.Table.{added}
-use Rattle.lent.proofs.RecordsLink.{R, val, IsLink, made}
+use Rattle.placed.proofs.RecordsLink.{R, val, IsLink, made}
 use Rattle.lent.proofs.RecordsCalls.{calls-to}
-use Rattle.lent.proofs.records.add_record as f
-use Rattle.lent.proofs.records.add_record.Symbol.{name as #add-record}
+use Rattle.lent.proofs.add_record as f
+use Rattle.lent.proofs.add_record.Symbol.{name as #add-record}
 
 abbrev pub Table : RattleType
 Table = Array u32 tt 16384

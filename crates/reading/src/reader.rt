@@ -12,8 +12,8 @@ use crate::store::link_line;
 use crate::store::link_past;
 use crate::store::links_of;
 use crate::store::store_entries;
-use lent::records::store_link;
 use meaning::Link;
+use placed::store_link;
 
 // So many links of a text that was judged, put at the front of the link space; the rest of it stays.
 fn store_links(text: &[u8], links: &mut [Link], count: usize)

@@ -9,7 +9,7 @@ use lib.ListN.{length, getD, take, length-append}
 use lib.Seq.{length-take-le, take-suc, take-length}
 use Rattle.meaning.specs.declared.Link.{Link}
 use Rattle.meaning.specs.declared.Judged.the-variants.{Accepted}
-use Rattle.lent.specs.Records.{noLink}
+use Rattle.placed.specs.Records.{noLink}
 use Rattle.cuts.specs.Record.{entrySize}
 use Rattle.texts.specs.Writers.{headLine, linkLine, linkLines, cutLines, closeLine, inputText}
 use Rattle.texts.specs.Writing.{over, inputSize, around}

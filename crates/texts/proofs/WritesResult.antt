@@ -14,7 +14,7 @@ use Rattle.meaning.specs.Judge.{refuse, first}
 use Rattle.meaning.specs.Tally.{Tally, pairTally}
 use Rattle.meaning.specs.Heap.{Heap, start, left}
 use Rattle.pairs.specs.Links.{tableRows}
-use Rattle.lent.specs.Records.{firstOf}
+use Rattle.placed.specs.Records.{firstOf}
 use Rattle.pairs.specs.Table.{held, filled}
 use Rattle.pairs.proofs.LinksBytes.{Short}
 use Rattle.heaps.specs.Names.{settled, names as namesOf}

@@ -15,7 +15,7 @@ use Rattle.meaning.specs.Judge.{refuse, first}
 use Rattle.meaning.proofs.Tests.{taut, so, _⊃_}
 use Rattle.meaning.specs.Tally.{pairTally}
 use Rattle.pairs.specs.Links.{tableRows}
-use Rattle.lent.specs.Records.{firstOf}
+use Rattle.placed.specs.Records.{firstOf}
 use Rattle.cuts.specs.Record.{entrySize}
 use Rattle.replay.specs.Rows.{recordRow, recordRows}
 use Rattle.texts.specs.declared.Written.{Written}

@@ -11,8 +11,8 @@ use lib.Seq.{take-suc-set}
 use Rattle.meaning.specs.declared.Link.{Link}
 use Rattle.pairs.specs.Links.{linkAt, linksOf}
 use Rattle.pairs.proofs.LinksBytes.{linksOf-at, length-linksOf}
-use Rattle.lent.specs.Records.{noLink}
-use Rattle.lent.proofs.RecordsRows.{take-next}
+use Rattle.placed.specs.Records.{noLink}
+use Rattle.placed.proofs.RecordsKept.{take-next}
 use Rattle.cutting.specs.declared.Answer.{Answer}
 use Rattle.cutting.specs.Calls.{Grouping}
 use Rattle.timed.specs.Groups.{groupsOf, Repeated}

@@ -42,7 +42,7 @@ use denote.Triple.Walked.{says, needs, Stays, stay-none-slice, stay-none, gave-s
 use denote.Exit.{yes}
 use Rattle.meaning.specs.declared.Link.{Link}
 use Rattle.meaning.specs.Judge.{first as first-of}
-use Rattle.lent.proofs.RecordsLink.{R}
+use Rattle.placed.proofs.RecordsLink.{R}
 use Rattle.lent.proofs.RecordsCalls.{calls-plain}
 use Rattle.lent.proofs.RecordsRead.{Own}
 use Rattle.cutting.specs.declared.Answer.{Answer}

@@ -41,7 +41,7 @@ use denote.Triple.Walked.{says, needs, Stays, stay-none-slice, stay-none, gave-s
 use denote.Exit.{yes}
 use Rattle.meaning.specs.declared.Link.{Link}
 use Rattle.meaning.specs.Judge.{first as first-of}
-use Rattle.lent.proofs.RecordsLink.{R, vals, tells, copied}
+use Rattle.placed.proofs.RecordsLink.{R, vals, tells, copied}
 use Rattle.lent.proofs.RecordsCalls.{calls-plain}
 use Rattle.lent.proofs.RecordsRead.{Own}
 use Rattle.cuts.specs.Record.{entrySize}

@@ -44,8 +44,8 @@ use denote.Exit.{yes}
 use Rattle.meaning.specs.declared.Link.{Link}
 use Rattle.meaning.proofs.Link as L
 use Rattle.meaning.proofs.Link.Laws as L′
-use Rattle.lent.specs.Records.{noLink}
-use Rattle.lent.proofs.RecordsLink.{R, val, vals, tells, no-link-is, typed, copied, made}
+use Rattle.placed.specs.Records.{noLink}
+use Rattle.placed.proofs.RecordsLink.{R, val, vals, tells, no-link-is, typed, copied, made}
 use Rattle.lent.proofs.RecordsCalls.{calls-to}
 use Rattle.reading.specs.declared.Reading.{Reading}
 use Rattle.texts.specs.declared.Written.{Written}

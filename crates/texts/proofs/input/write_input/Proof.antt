@@ -44,14 +44,14 @@ use Rattle.meaning.specs.declared.Link.{Link}
 use Rattle.meaning.specs.declared.Judged.{Judged}
 use Rattle.meaning.specs.Judge.{first as first-of}
 use Rattle.pairs.specs.Links.{tableRows}
-use Rattle.lent.specs.Records.{firstOf}
-use Rattle.lent.proofs.RecordsLink.{R, J, judged, told, IsJudged, told-so, typed-judged, made-judged, slice}
+use Rattle.placed.specs.Records.{firstOf}
+use Rattle.placed.proofs.RecordsLink.{R, J, judged, told, IsJudged, told-so, typed-judged, made-judged, slice}
 use Rattle.lent.proofs.RecordsCalls.{calls-plain, calls-over}
 use Rattle.lent.proofs.RecordsRead.{Own}
-use Rattle.lent.proofs.records.judge_records as jud
-use Rattle.lent.proofs.records.judge_records.Symbol as jud-def
-use Rattle.lent.proofs.records.judge_records.Symbol.{name as #judge-records}
-use Rattle.lent.proofs.records.judge_records.Met as jud-thm
+use Rattle.lent.proofs.judge_records as jud
+use Rattle.lent.proofs.judge_records.Symbol as jud-def
+use Rattle.lent.proofs.judge_records.Symbol.{name as #judge-records}
+use Rattle.lent.proofs.judge_records.Met as jud-thm
 use Rattle.texts.specs.declared.Written.{Written}
 use Rattle.texts.specs.Writing.{laterRows, Begun, linksLeft}
 use Rattle.texts.proofs.WritesAnswer.{Wn, said, IsWritten, said-so, unit-so, typed-written, made-written}
@@ -265,7 +265,7 @@ write-input-spec 𝓤 H 𝓜 𝓖 𝓡 =
     (λ κs. (uint-vals w64, (uint-vals w64, (slice-vals, (slice-vals, (slice-vals, tt)))))) (λ κs. (uint-tells w64, (uint-tells w64, (shr-slice-tells (named 0) (κs .0) R, (shr-slice-tells (named 1) (κs .1 .0) u8, (mut-slice-tells (named 2) (κs .1 .1 .0) u8, tt))))))
     (λ κs qs bounds a g are. via 𝓤 _ (fst∗ 𝓤 _ (emp 𝓤)) (walk 𝓤 H (𝓖 .A) W (𝓜 .mem) (𝓡 .run) (κs .0) (κs .1 .0) (κs .1 .1 .0) (qs .0) (qs .1 .0) (qs .1 .1 .0) (a .0) (a .1 .0) (a .1 .1 .0) (a .1 .1 .1 .0)
     (a .1 .1 .1 .1 .0 .ptr .0) (a .1 .1 .1 .1 .0 .ptr .1) (a .1 .1 .1 .1 .0 .name) (a .1 .1 .1 .1 .0 .now) (are .0 .1) (are .1 .0 .1) (are .1 .1 .0 .0 .1) (are .1 .1 .1 .0 .0 .1) (are .1 .1 .1 .1 .0 .0 .1) 𝓣
-    (cited 𝓤 H (Judge 𝓤 H (𝓖 .A) (𝓜 .mem) (𝓡 .run)) 𝓜 𝓡 code.env #judge-records jud-def.routine code.calls-lent·records·judge-records (jud-thm.met 𝓤 H 𝓜 𝓖 𝓡))
+    (cited 𝓤 H (Judge 𝓤 H (𝓖 .A) (𝓜 .mem) (𝓡 .run)) 𝓜 𝓡 code.env #judge-records jud-def.routine code.calls-lent·judge-records (jud-thm.met 𝓤 H 𝓜 𝓖 𝓡))
     (cited 𝓤 H (Begin 𝓤 H (𝓖 .A) (𝓜 .mem) (𝓡 .run)) 𝓜 𝓡 code.env #begin beg-def.routine code.calls-texts·input·begin (beg-thm.met 𝓤 H 𝓜 𝓖 𝓡))
     (cited 𝓤 H (LinksLeft 𝓤 H (𝓖 .A) (𝓜 .mem) (𝓡 .run)) 𝓜 𝓡 code.env #links-left lef-def.routine code.calls-texts·input·links-left (lef-thm.met 𝓤 H 𝓜 𝓖 𝓡))
     (cited 𝓤 H (PutLinks 𝓤 H (𝓖 .A) (𝓜 .mem) (𝓡 .run)) 𝓜 𝓡 code.env #put-links put-def.routine code.calls-texts·input·put-links (put-thm.met 𝓤 H 𝓜 𝓖 𝓡))))))

@@ -45,18 +45,18 @@ use Rattle.meaning.specs.declared.Link.{Link}
 use Rattle.meaning.specs.declared.Judged.{Judged}
 use Rattle.meaning.specs.Judge.{refuse, first as first-of}
 use Rattle.pairs.specs.Links.{tableRows}
-use Rattle.lent.specs.Records.{firstOf}
+use Rattle.placed.specs.Records.{firstOf}
 use Rattle.pairs.specs.Table.{held, filled}
-use Rattle.lent.proofs.RecordsLink.{R, J, told, IsJudged, typed-judged, made-judged}
+use Rattle.placed.proofs.RecordsLink.{R, J, told, IsJudged, typed-judged, made-judged}
 use Rattle.lent.proofs.RecordsCalls.{calls-to}
 use Rattle.lent.proofs.RecordsRead.{Own}
 use Rattle.lent.proofs.RecordsShort.{learns-short}
 use Rattle.lent.proofs.RecordsTable.{Table}
 use Rattle.lent.proofs.RecordsLocal.{tableTy, noughts, noughts-typed, lies-noughts, lies-room}
 use Rattle.lent.proofs.RecordsFill.{FillRecords, calls-fill}
-use Rattle.lent.proofs.records.fill_records.Symbol as fill-def
-use Rattle.lent.proofs.records.fill_records.Symbol.{name as #fill-records}
-use Rattle.lent.proofs.records.fill_records.Met as fill-thm
+use Rattle.lent.proofs.fill_records.Symbol as fill-def
+use Rattle.lent.proofs.fill_records.Symbol.{name as #fill-records}
+use Rattle.lent.proofs.fill_records.Met as fill-thm
 use Rattle.replay.specs.Rows.{recordRows}
 use Rattle.cutting.proofs.Judged.{judged-fits}
 use Rattle.texts.specs.declared.Written.{Written}
@@ -183,5 +183,5 @@ write-result-spec 𝓤 H 𝓜 𝓖 𝓡 =
     (λ κs. (uint-vals w64, (uint-vals w64, (slice-vals, (slice-vals, (slice-vals, tt)))))) (λ κs. (uint-tells w64, (uint-tells w64, (shr-slice-tells (named 0) (κs .0) R, (shr-slice-tells (named 1) (κs .1 .0) u8, (mut-slice-tells (named 2) (κs .1 .1 .0) u8, tt))))))
     (λ κs qs bounds a g are. via 𝓤 _ (fst∗ 𝓤 _ (emp 𝓤)) (walk 𝓤 H (𝓖 .A) W (𝓜 .mem) (𝓡 .run) (κs .0) (κs .1 .0) (κs .1 .1 .0) (qs .0) (qs .1 .0) (qs .1 .1 .0) (a .0) (a .1 .0) (a .1 .1 .0) (a .1 .1 .1 .0) (a .1 .1 .1 .1 .0)
     (are .0 .1) (are .1 .0 .1) (are .1 .1 .0 .0 .1) (are .1 .1 .1 .0 .0 .1) (are .1 .1 .1 .1 .0 .0 .1) 𝓣
-    (cited 𝓤 H (FillRecords 𝓤 H (𝓖 .A) (𝓜 .mem) (𝓡 .run)) 𝓜 𝓡 code.env #fill-records fill-def.routine code.calls-lent·records·fill-records (fill-thm.met 𝓤 H 𝓜 𝓖 𝓡))
+    (cited 𝓤 H (FillRecords 𝓤 H (𝓖 .A) (𝓜 .mem) (𝓡 .run)) 𝓜 𝓡 code.env #fill-records fill-def.routine code.calls-lent·fill-records (fill-thm.met 𝓤 H 𝓜 𝓖 𝓡))
     (cited 𝓤 H (Core 𝓤 H (𝓖 .A) (𝓜 .mem) (𝓡 .run)) 𝓜 𝓡 code.env #result-judged core-def.routine code.calls-texts·result·result-judged (core-thm.met 𝓤 H 𝓜 𝓖 𝓡))))))

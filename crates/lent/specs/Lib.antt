@@ -1,2 +1,0 @@
--- What the promises over link records cite.
-pub mod Records

@@ -1,0 +1,3 @@
+-- The laws of link records.
+pub mod RecordsLink
+pub mod RecordsKept

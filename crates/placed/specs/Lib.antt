@@ -1,0 +1,2 @@
+-- What the promises of link records cite.
+pub mod Records
