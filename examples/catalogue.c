@@ -1,8 +1,8 @@
 /*
  * A catalogue's call of the grouping: which bones of a tray belong together, and the cuts that show why the others do not.
  *
- *   rt staticlib cutting
- *   cc -Iinclude examples/catalogue.c target/staticlib/libcutting.a -o target/catalogue && target/catalogue
+ *   rt staticlib calls
+ *   cc -Iinclude examples/catalogue.c target/staticlib/libcalls.a -o target/catalogue && target/catalogue
  */
 #include <stdio.h>
 #include <string.h>

@@ -9,7 +9,7 @@
  *   bones_grouping    finishes a record (often an empty one) and gives every bone its label
  *   bones_checking    judges a record that was made elsewhere and says whether it is finished
  *
- * Link with the archive that `rt staticlib cutting` writes: cc prog.c target/staticlib/libcutting.a
+ * Link with the archive that `rt staticlib calls` writes: cc prog.c target/staticlib/libcalls.a
  *
  * Numbers
  *   n        bones, 1 to 128

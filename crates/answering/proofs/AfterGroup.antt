@@ -17,20 +17,24 @@ use Rattle.meaning.specs.Firm.{label, groups}
 use Rattle.meaning.specs.Heap.{Cut, start, LawfulRun, left, finished}
 use Rattle.meaning.proofs.Sums.{count-most}
 use Rattle.meaning.proofs.Theorems.{links-symmetric, can-finish, cuts-and-groups}
-use Rattle.pairs.specs.Links.{tableRows}
+use Rattle.links.specs.Links.{tableRows}
 use Rattle.placed.specs.Records.{firstOf}
-use Rattle.pairs.proofs.LinksRows.{table-counted, accepted-left, accepted-right}
-use Rattle.cutting.specs.declared.Answer.{Answer}
+use Rattle.links.proofs.LinksRows.{table-counted, accepted-left, accepted-right}
+use Rattle.runs.specs.declared.Answer.{Answer}
 use Rattle.cuts.specs.Record.{entrySize, cutsOf}
 use Rattle.replay.specs.Rows.{recordRows}
-use Rattle.cutting.specs.Rows.{labelRow, spaceRow, groupingRows}
-use Rattle.cutting.specs.Calls.{answered, Recorded, Continued, Grouping}
+use Rattle.runs.specs.Rows.{labelRow, spaceRow}
+use Rattle.cutting.specs.Rows.{groupingRows}
+use Rattle.runs.specs.Runs.{answered, Recorded, Continued}
+use Rattle.cutting.specs.Calls.{Grouping}
 use Rattle.cuts.proofs.Cuts.{length-cuts}
-use Rattle.cutting.proofs.Continuing.{Sound, record-sound}
+use Rattle.runs.proofs.Continuing.{Sound, record-sound}
 use Rattle.cutting.proofs.Demands.{own, own-sound}
 use Rattle.replay.proofs.Lawful.{record-fits, lawful-entries}
-use Rattle.texts.specs.declared.Written.{Written}
-use Rattle.texts.specs.Writers.{resultText, resultRows, refusalLine, Writes}
+use Rattle.lines.specs.declared.Written.{Written}
+use Rattle.lines.specs.Kinds.{refusalLine}
+use Rattle.lines.specs.Writing.{Writes}
+use Rattle.texts.specs.Writers.{resultText, resultRows}
 use Rattle.texts.proofs.WritesRows.{result-rows}
 use Rattle.answering.specs.Prints.{groupedRows, Finishes, Printed, Answers}
 use Rattle.answering.specs.Steps.{Ready, AfterGrouping}

@@ -11,15 +11,15 @@ use Rattle.meaning.specs.declared.Link.{Link}
 use Rattle.meaning.specs.declared.Judged.{Judged}
 use Rattle.meaning.specs.declared.Judged.the-variants.{Accepted, Refused}
 use Rattle.meaning.specs.Judge.{refuse, first}
-use Rattle.pairs.proofs.LinksRows.{first-accepted, first-refused, accepted-left, accepted-right}
+use Rattle.links.proofs.LinksRows.{first-accepted, first-refused, accepted-left, accepted-right}
 use Rattle.cuts.specs.Record.{entrySize}
 use Rattle.reading.specs.declared.Reading.{Reading}
-use Rattle.texts.specs.declared.Written.{Written}
-use Rattle.reading.specs.declared.stage.Stage.the-variants.{Opening}
+use Rattle.lines.specs.declared.Written.{Written}
+use Rattle.stages.specs.declared.stage.Stage.the-variants.{Opening}
 use Rattle.reading.specs.Lines.{Line, linesOf, lineRows}
 use Rattle.reading.specs.Reader.{linksIn, entriesIn, bonesIn, thresholdIn, readerRows, read, put, Reads}
 use Rattle.reading.specs.Storing.{linksOf, cutsHeld}
-use Rattle.texts.specs.Writers.{refusalLine}
+use Rattle.lines.specs.Kinds.{refusalLine}
 use Rattle.reading.proofs.ReadsRows.{accepted-well, entries-whole}
 use Rattle.reading.proofs.ReadsAll.{links-ok, cuts-ok}
 use Rattle.answering.specs.Prints.{groupedRows, programRows, Printed, Answers, Answering}

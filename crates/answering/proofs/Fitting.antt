@@ -1,6 +1,7 @@
 -- A refusal of the reader or of grouping fits the frame that tells it: its number is below 256, and its place below 65,536.
 --     Fits             what a judgement is, if it refuses
 --     reader-fits, grouping-fits     the first refusal of each
+--     framed-whole     the frame of what fits it tells the whole of it
 -- Assumes nothing.
 use Prim.Native.Nat.{ℕ, suc, _+_, _-_, _/_, _%_, _≤_, _<_}
 use mathlib.Core.Path.{_≡_, refl, subst}
@@ -16,17 +17,20 @@ use Rattle.meaning.specs.declared.Judged.the-variants.{Accepted, Refused}
 use Rattle.meaning.specs.Judge.{refuse, first}
 use Rattle.meaning.specs.Tally.{Tally, pairTally}
 use Rattle.meaning.specs.Heap.{Heap, Cut, start, parted}
-use Rattle.pairs.specs.Links.{linkRows, linksRows, countRows, tableRows}
-use Rattle.pairs.proofs.LinksRows.{table-counted}
+use Rattle.links.specs.Links.{linkRows, linksRows, countRows, tableRows}
+use Rattle.links.proofs.LinksRows.{table-counted}
 use Rattle.cuts.specs.Record.{entrySize, cutsIn, cutsOf}
 use Rattle.replay.specs.Rows.{recordRow, recordRows, entryRows, entriesRows}
-use Rattle.cutting.specs.Rows.{labelRow, spaceRow, groupingRows}
+use Rattle.runs.specs.Rows.{labelRow, spaceRow}
+use Rattle.cutting.specs.Rows.{groupingRows}
 use Rattle.cuts.proofs.Cuts.{length-cuts}
-use Rattle.reading.specs.declared.stage.Stage.{Stage}
-use Rattle.reading.specs.declared.stage.Stage.the-variants.{Opening}
-use Rattle.reading.specs.Frame.{wellFormed, isHex, isKind, bytesOf}
+use Rattle.stages.specs.declared.stage.Stage.{Stage}
+use Rattle.stages.specs.declared.stage.Stage.the-variants.{Opening}
+use Rattle.frames.specs.Frame.{wellFormed, isHex, isKind, bytesOf}
 use Rattle.reading.specs.Lines.{Line, before, linesOf, lineRows}
 use Rattle.reading.specs.Reader.{readerRows}
+use Rattle.lines.specs.declared.Written.{Written}
+use Rattle.lines.specs.Writing.{Refuses}
 use Rattle.answering.specs.Steps.{Framed}
 
 unfoldable pub Fits : Judged → Type 0
@@ -143,3 +147,11 @@ reader-fits text linkRoom recordRoom =
     row-fits _ 9 0 _ (lit< tt, lit< tt) (λ _.
     row-fits _ 14 0 _ (lit< tt, lit< tt) (λ _.
     row-fits _ 8 0 _ (lit< tt, lit< tt) (λ _. none-fits))))))
+
+-- ---- the frame
+
+pub framed-whole : (number place : ℕ) (room room′ : List ℕ) (r : Written) → Framed number place → Refuses (number % 256) (place % 65536) room room′ r → Refuses number place room room′ r
+framed-whole number place room room′ r framed e =
+    let n : number % 256 ≡ number = omega (arith, framed .0) in
+    let p : place % 65536 ≡ place = omega (arith, framed .1) in
+    subst (λ (m : ℕ). Refuses m place room room′ r) n (subst (λ (m : ℕ). Refuses (number % 256) m room room′ r) p e)

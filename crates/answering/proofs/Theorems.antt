@@ -18,18 +18,20 @@ use Rattle.meaning.specs.Firm.{label, groups}
 use Rattle.meaning.specs.Heap.{Heap, start, left}
 use Rattle.meaning.proofs.Sums.{count-most}
 use Rattle.meaning.proofs.Theorems.{names-are-labels, cuts-and-groups}
-use Rattle.pairs.specs.Links.{tableRows}
-use Rattle.pairs.proofs.LinksRows.{table-counted, accepted-left, accepted-right}
+use Rattle.links.specs.Links.{tableRows}
+use Rattle.links.proofs.LinksRows.{table-counted, accepted-left, accepted-right}
 use Rattle.cuts.specs.Record.{entrySize, cutsOf}
 use Rattle.cuts.proofs.Cuts.{length-cuts}
 use Rattle.cutting.specs.Rows.{groupingRows}
 use Rattle.reading.specs.Lines.{linesOf}
 use Rattle.reading.specs.Reader.{linksIn, entriesIn, bonesIn, thresholdIn, readerRows, put}
-use Rattle.texts.specs.declared.Written.{Written}
-use Rattle.texts.specs.declared.Written.the-variants.{Bytes, Refused as Refused·written}
-use Rattle.texts.specs.Writers.{headLine, cutLines, labelLine, labelLines, closeLine, resultText, refusalLine, wrote}
+use Rattle.lines.specs.declared.Written.{Written}
+use Rattle.lines.specs.declared.Written.the-variants.{Bytes, Refused as Refused·written}
+use Rattle.lines.specs.Kinds.{headLine, cutLines, labelLine, labelLines, closeLine, refusalLine}
+use Rattle.lines.specs.Writing.{wrote}
+use Rattle.texts.specs.Writers.{resultText}
 use Rattle.texts.proofs.Texts.{result-length}
-use Rattle.texts.proofs.WritesLines.{length-refusal}
+use Rattle.lines.proofs.WritesLines.{length-refusal}
 use Rattle.answering.specs.Prints.{groupedRows, programRows, Finishes, Result, Printed, Answering}
 
 -- ---- a result text

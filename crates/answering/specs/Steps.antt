@@ -1,26 +1,22 @@
 -- What the program's steps promise each other: what comes after reading, and what comes after grouping.
 use Prim.Native.Nat.{ℕ, _*_, _-_, _≤_, _<_}
 use mathlib.Core.List.{List}
-use lib.Dec.{ltb}
 use lib.ListN.{length, take}
 use Rattle.meaning.specs.declared.Link.{Link}
-use Rattle.meaning.specs.Judge.{refuse, first}
-use Rattle.cutting.specs.declared.Answer.{Answer}
-use Rattle.cutting.specs.declared.Answer.the-variants.{Gave, Refused as Refused·answer}
+use Rattle.meaning.specs.Judge.{first}
+use Rattle.runs.specs.declared.Answer.{Answer}
+use Rattle.runs.specs.declared.Answer.the-variants.{Gave, Refused as Refused·answer}
 use Rattle.cuts.specs.Record.{entrySize}
 use Rattle.reading.specs.declared.Reading.{Reading}
 use Rattle.reading.specs.declared.Reading.the-variants.{Got, Refused as Refused·reading}
-use Rattle.texts.specs.declared.Written.{Written}
-use Rattle.texts.specs.Writers.{resultText, resultRows, refusalLine, Writes}
+use Rattle.lines.specs.declared.Written.{Written}
+use Rattle.lines.specs.Writing.{Writes, Refuses}
+use Rattle.texts.specs.Writers.{resultText, resultRows}
 use Rattle.answering.specs.Prints.{groupedRows, Answers}
 
 -- a refusal's number and place fit its frame
 abbrev pub Framed : ℕ → ℕ → Type 0
 Framed number place = (number < 256) × (place < 65536)
-
--- the frame of a refusal is written, where there is room
-abbrev pub Refuses : ℕ → ℕ → List ℕ → List ℕ → Written → Type 0
-Refuses number place out out′ r = Writes (refuse (ltb (length out) (length (refusalLine number place))) 20 0) (refusalLine number place) out out′ r
 
 -- after reading into rooms of so many links and bytes: what was read fits them; and then it is grouped, or the refusal is written
 unfoldable pub Held : Reading → ℕ → ℕ → Type 0

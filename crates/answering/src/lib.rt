@@ -1,46 +1,19 @@
 // The program's one function, from bytes to bytes: an input text is read, its bones are grouped, and the result text is written; or the first refusal's
 // frame, alone. The functions over link records are proved by hand, so each only lends, and goes by one answer; numbers are left to covered ones.
-use cuts::record::Record;
 use cutting::Answer;
 use cutting::grouping_records;
+use lines::entries::size_of;
+use lines::entries::size_of_run;
 use meaning::Link;
 use reading::Reading;
 use reading::reader::read;
 use texts::Written;
-use texts::refusal::write_refusal;
+use texts::refusal::write_refused;
 use texts::result::write_result;
-ghost use mathlib.Core.Path.{_≡_};
-ghost use Prim.Native.Nat.{_*_, _-_};
 ghost use lib.ListN.{length};
 ghost use Rattle.meaning.specs.Judge.{first};
-ghost use Rattle.cuts.specs.Record.{entrySize};
 ghost use Rattle.answering.specs.Prints.{groupedRows, Answers, Answering};
-ghost use Rattle.answering.specs.Steps.{Framed, Refuses, Held, AfterReading, Ready, AfterGrouping};
-
-// The frame of a refusal.
-fn refuse(number: u32, place: u32, out: &mut [u8]) -> Written
-    requires { ⌜ Framed number place ⌝ }
-    ensures { λ r. ⌜ Refuses number place (now (out .entry)) (now (out .exit)) r ⌝ }
-{
-    write_refusal(number as u8, place as u16, out)
-}
-
-// The bytes of so many entries.
-fn size_of(cuts: u32) -> usize
-    ensures { λ r. ⌜ r ≡ cuts * entrySize ⌝ }
-{
-    cuts as usize * Record::ENTRY
-}
-
-// The bytes of a finished run's record: one cut fewer than groups.
-fn size_of_run(groups: u32) -> usize
-    ensures { λ r. ⌜ r ≡ (groups - 1) * entrySize ⌝ }
-{
-    if groups == 0 {
-        return 0;
-    }
-    size_of(groups - 1)
-}
+ghost use Rattle.answering.specs.Steps.{Held, AfterReading, Ready, AfterGrouping};
 
 // After grouping: its refusal, or the result text of the record that it left.
 fn after_grouping(
@@ -55,7 +28,7 @@ fn after_grouping(
     ensures { λ r. ⌜ AfterGrouping grouped n k (now (links .entry)) (now (space .entry)) (now (out .entry)) (now (out .exit)) r ⌝ }
 {
     match grouped {
-        Answer::Refused { number, place } => refuse(number, place, out),
+        Answer::Refused { number, place } => write_refused(number, place, out),
         Answer::Gave { count, finished: _ } => {
             let end = size_of_run(count);
             write_result(n, k, links, &space[..end], out)
@@ -79,7 +52,7 @@ fn after_reading(reading: Reading, links: &[Link], space: &[u8], out: &mut [u8])
     ensures { λ r. ⌜ AfterReading reading (now (links .entry)) (now (space .entry)) (now (out .entry)) (now (out .exit)) r ⌝ }
 {
     match reading {
-        Reading::Refused { number, place } => refuse(number, place, out),
+        Reading::Refused { number, place } => write_refused(number, place, out),
         Reading::Got {
             n,
             k,

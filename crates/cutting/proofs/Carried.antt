@@ -1,31 +1,32 @@
 -- From a table to the links that fill it: what a core promises of the table's tally is what the call promises of the links'.
 -- Assumes nothing.
-use Prim.Native.Nat.{ℕ, _*_, _-_, _≤_, _<_}
-use mathlib.Core.Path.{_≡_, refl, sym, _∙_, ap, ap₂, subst}
+use Prim.Native.Nat.{ℕ, _*_, _-_}
+use mathlib.Core.Path.{_≡_, sym, _∙_, ap, ap₂, subst}
 use mathlib.Core.Bool.{Bool, true}
 use mathlib.Core.List.{List, _∷_}
+use native.Mathlib.Omega.{arith}
 use lib.Dec.{T}
 use lib.ListN.{length, take, drop, replicate}
-use borrow.Author.Tests.{lt-ltb, le-ltb}
+use borrow.Author.Tests.{le-ltb, ne-eqb}
 use Rattle.meaning.specs.declared.Link.{Link}
 use Rattle.meaning.specs.declared.Judged.{Judged}
 use Rattle.meaning.specs.declared.Judged.the-variants.{Accepted, Refused}
 use Rattle.meaning.specs.Judge.{refuse, first}
 use Rattle.meaning.specs.Tally.{Tally, pairTally}
-use Rattle.meaning.specs.Firm.{label, groups}
+use Rattle.meaning.specs.Firm.{groups}
 use Rattle.meaning.specs.Heap.{Heap, start, LawfulRun, left, piles, finished}
-use Rattle.pairs.specs.Links.{tableRows}
+use Rattle.links.specs.Links.{countRows, tableRows}
 use Rattle.pairs.specs.Table.{held, filled}
-use Rattle.pairs.proofs.LinksBytes.{Short}
-use Rattle.pairs.proofs.LinksRows.{Counted, table-counted, first-accepted, first-refused}
+use Rattle.links.proofs.LinksBytes.{Short}
+use Rattle.links.proofs.LinksRows.{Counted, table-counted, first-accepted, first-refused}
 use Rattle.pairs.proofs.TableHeld.{table-holds}
-use Rattle.cutting.specs.declared.Answer.{Answer}
-use Rattle.cutting.specs.declared.Answer.the-variants.{Gave, Refused as Refused·answer}
+use Rattle.runs.specs.declared.Answer.{Answer}
 use Rattle.cuts.specs.Record.{entrySize, cutsOf}
 use Rattle.replay.specs.Rows.{recordRow, recordRows}
-use Rattle.cutting.specs.Rows.{labelRow, spaceRow, checkingRows, groupingRows}
+use Rattle.runs.specs.Rows.{labelRow, spaceRow}
+use Rattle.cutting.specs.Rows.{checkingRows, groupingRows}
 use Rattle.heaps.specs.Names.{settled, written}
-use Rattle.cutting.specs.Calls.{answered, Checked, Continued, Recorded, Grouped}
+use Rattle.runs.specs.Runs.{answered, Checked, Continued, Recorded, Grouped}
 use Rattle.cutting.proofs.Alike.{Alike, label-alike, groups-alike, finished-alike, entries-alike, run-alike}
 
 module _ (n : ℕ) (v w : Tally) (alike : Alike n v w) (k : ℕ) where
@@ -65,6 +66,14 @@ module _ (n : ℕ) (v w : Tally) (alike : Alike n v w) (k : ℕ) where
 
 -- ---- a table that was filled from nought
 
+-- where the links are accepted, so are the counts: above the table rows 1 and 2 pass once more
+pub counts-pass : (n k : ℕ) (good : Bool) (links : List Link) → first (tableRows n k good links) ≡ Accepted → first (countRows n k true 0) ≡ Accepted
+unfolding countRows refuse first
+counts-pass n k good links e =
+    let c = table-counted n k good links e in
+    simp
+    (ne-eqb n 0 (omega (arith, c .some-bones)), le-ltb 128 n (c .few-bones), ne-eqb k 0 (omega (arith, c .some-threshold)), le-ltb 65535 k (c .low-threshold))
+
 module _ (n k : ℕ) (good : Bool) (links : List Link) (r : Judged) (judged : r ≡ first (tableRows n k good links)) (accepted : r ≡ Accepted) where
   pub filled-counted : Counted n k good (length links)
   filled-counted = table-counted n k good links (sym judged ∙ accepted)
@@ -102,65 +111,3 @@ module _ (n k : ℕ) (good : Bool) (links : List Link) (bytes : List ℕ) (label
     unfolding groupingRows
     grouping-stop number place e =
         first-refused (tableRows n k good links) (labelRow n labelRoom ∷ spaceRow n recordRoom ∷ recordRows n (pairTally links) k bytes) number place e
-
--- rows 7 and 8
-module _ (n room : ℕ) (js : List Judged) where
-  pub label-short : room < n → first (labelRow n room ∷ js) ≡ Refused 7 0
-  unfolding labelRow refuse first
-  label-short l = rw (lt-ltb room n l)
-
-  pub label-fits : n ≤ room → first (labelRow n room ∷ js) ≡ first js
-  unfolding labelRow refuse first
-  label-fits l = rw (le-ltb room n l)
-
-  pub space-short : room < entrySize * (n - 1) → first (spaceRow n room ∷ js) ≡ Refused 8 0
-  unfolding spaceRow refuse first
-  space-short l = rw (lt-ltb room (entrySize * (n - 1)) l)
-
-  pub space-fits : entrySize * (n - 1) ≤ room → first (spaceRow n room ∷ js) ≡ first js
-  unfolding spaceRow refuse first
-  space-fits l = rw (le-ltb room (entrySize * (n - 1)) l)
-
--- ---- a refusal is the answer, and nothing is changed
-
-module _ (rows : List Judged) (n : ℕ) (w : Tally) (k : ℕ) (bytes labels : List ℕ) (number place : ℕ) (e : first rows ≡ Refused number place) where
-  pub checked-refused : Checked rows n w k bytes labels labels (Refused·answer number place)
-  unfolding answered settled
-  checked-refused =
-      record {
-        answer = ap (λ (j : Judged). answered j (piles n (left n start (cutsOf bytes))) (finished n w k (left n start (cutsOf bytes)))) (sym e);
-        names-left = ap (λ (j : Judged). settled j labels (written n (left n start (cutsOf bytes)) labels)) (sym e);
-      }
-
-  pub grouped-refused : (space : List ℕ) → Grouped rows n w k bytes labels labels space space (Refused·answer number place)
-  unfolding answered settled Recorded
-  grouped-refused space =
-      record {
-        answer = ap (λ (j : Judged). answered j (groups n w k) true) (sym e);
-        labels-left = ap (λ (j : Judged). settled j labels (written n (label n w k) labels)) (sym e);
-        record-left = subst (λ (j : Judged). Recorded j n w k bytes space space) (sym e) refl;
-      }
-
--- ---- accepted
-
-module _ (rows : List Judged) (n : ℕ) (w : Tally) (k : ℕ) (bytes labels labels′ : List ℕ) (e : first rows ≡ Accepted) where
-  pub checked-accepted : (h : Heap) (r : Answer) → h ≡ left n start (cutsOf bytes) → r ≡ Gave (piles n h) (finished n w k h) → labels′ ≡ written n h labels → Checked rows n w k bytes labels labels′ r
-  unfolding answered settled
-  checked-accepted h r p q l =
-      record {
-        answer = q
-            ∙ ap (λ (x : Heap). Gave (piles n x) (finished n w k x)) p
-            ∙ ap (λ (j : Judged). answered j (piles n (left n start (cutsOf bytes))) (finished n w k (left n start (cutsOf bytes)))) (sym e);
-        names-left = l
-            ∙ ap (λ (x : Heap). written n x labels) p
-            ∙ ap (λ (j : Judged). settled j labels (written n (left n start (cutsOf bytes)) labels)) (sym e);
-      }
-
-  pub grouped-accepted : (space space′ : List ℕ) (r : Answer) → r ≡ Gave (groups n w k) true → labels′ ≡ written n (label n w k) labels → Continued n w k bytes space space′ → Grouped rows n w k bytes labels labels′ space space′ r
-  unfolding answered settled Recorded
-  grouped-accepted space space′ r q l c =
-      record {
-        answer = q ∙ ap (λ (j : Judged). answered j (groups n w k) true) (sym e);
-        labels-left = l ∙ ap (λ (j : Judged). settled j labels (written n (label n w k) labels)) (sym e);
-        record-left = subst (λ (j : Judged). Recorded j n w k bytes space space′) (sym e) c;
-      }

@@ -9,20 +9,21 @@ use Rattle.meaning.specs.declared.Link.{Link}
 use Rattle.meaning.specs.declared.Judged.{Judged}
 use Rattle.meaning.specs.declared.Judged.the-variants.{Accepted, Refused}
 use Rattle.meaning.specs.Judge.{first}
-use Rattle.pairs.specs.Links.{tableRows}
+use Rattle.links.specs.Links.{countRows, tableRows}
 use Rattle.pairs.specs.Table.{held, filled}
-use Rattle.pairs.proofs.LinksBytes.{Short}
-use Rattle.cutting.specs.declared.Answer.{Answer}
+use Rattle.links.proofs.LinksBytes.{Short}
+use Rattle.runs.specs.declared.Answer.{Answer}
 use Rattle.replay.specs.Rows.{recordRows}
-use Rattle.cutting.specs.Rows.{labelRow, spaceRow}
+use Rattle.runs.specs.Rows.{labelRow, spaceRow}
 use Rattle.heaps.specs.Names.{settled, written}
-use Rattle.cutting.specs.Calls.{answered, Checked, Checking, Recorded, Grouped, Grouping}
+use Rattle.runs.specs.Runs.{answered, Checked, Recorded, Grouped}
+use Rattle.cutting.specs.Calls.{Checking, Grouping}
 use Rattle.cuts.specs.Record.{cutsOf}
 use Rattle.meaning.specs.Tally.{pairTally}
 use Rattle.meaning.specs.Heap.{start, left, piles, finished}
 use Rattle.meaning.specs.Firm.{label, groups}
-use Rattle.pairs.proofs.LinksRows.{never-both}
-use Rattle.cutting.proofs.Carried.{filled-counted, filled-alike, checked-alike, checking-core, checking-stop, grouped-alike, grouping-core, grouping-stop}
+use Rattle.links.proofs.LinksRows.{never-both}
+use Rattle.cutting.proofs.Carried.{counts-pass, filled-counted, filled-alike, checked-alike, checking-core, checking-stop, grouped-alike, grouping-core, grouping-stop}
 
 module _ (n k : ℕ) (good : Bool) (links : List Link) (j : Judged) (judged : j ≡ first (tableRows n k good links)) where
   pub judged-fits : j ≡ Accepted → (0 < n) × (n ≤ 128) × (k ≤ 65535)
@@ -30,8 +31,8 @@ module _ (n k : ℕ) (good : Bool) (links : List Link) (j : Judged) (judged : j 
       let counted = filled-counted n k good links j judged e in
       (counted .some-bones, counted .few-bones, counted .low-threshold)
 
-  pub judged-few : j ≡ Accepted → (0 < n) × (n ≤ 128)
-  judged-few e = (judged-fits e .0, judged-fits e .1)
+  pub judged-counts : j ≡ Accepted → first (countRows n k true 0) ≡ Accepted
+  judged-counts e = counts-pass n k good links (sym judged ∙ e)
 
 pub judged-checking : (n k : ℕ) (good : Bool) (links : List Link) (j : Judged) → j ≡ first (tableRows n k good links) → Short links → (bytes labels labels′ : List ℕ) (r : Answer)
     → Checked (j ∷ labelRow n (length labels) ∷ recordRows n (held (filled j (replicate 16384 0) links)) k bytes) n (held (filled j (replicate 16384 0) links)) k bytes labels labels′ r → Checking n k good links bytes labels labels′ r

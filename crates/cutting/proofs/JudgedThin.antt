@@ -15,12 +15,12 @@ use Rattle.meaning.specs.declared.Judged.{Judged}
 use Rattle.meaning.specs.declared.Judged.the-variants.{Accepted, Refused}
 use Rattle.meaning.specs.Judge.{first}
 use Rattle.meaning.specs.Firm.{label}
-use Rattle.pairs.specs.Links.{tableRows}
+use Rattle.links.specs.Links.{tableRows}
 use Rattle.placed.specs.Records.{keptLinks, written}
 use Rattle.pairs.specs.Side.{heapOf}
 use Rattle.pairs.specs.Table.{held, filled}
-use Rattle.pairs.proofs.LinksBytes.{Short}
-use Rattle.pairs.proofs.LinksRows.{never-both, table-counted, table-proper}
+use Rattle.links.proofs.LinksBytes.{Short}
+use Rattle.links.proofs.LinksRows.{never-both, table-counted, table-proper}
 use Rattle.replay.proofs.Lawful.{row-accepted}
 use Rattle.cutting.specs.Rows.{linkRow, thinningRows}
 use Rattle.cutting.specs.Thin.{refused}

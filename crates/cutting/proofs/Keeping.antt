@@ -19,10 +19,10 @@ use Rattle.meaning.specs.Firm.{label}
 use Rattle.meaning.specs.Heap.{Heap}
 use Rattle.pairs.specs.Side.{heapOf}
 use Rattle.placed.specs.Records.{sameLabel, keptLinks}
-use Rattle.pairs.specs.Links.{linksOf, linkAt, linkRows, linksRows, tableRows}
-use Rattle.pairs.proofs.LinksBytes.{linksOf-next, linksOf-end}
+use Rattle.links.specs.Links.{linksOf, linkAt, linkRows, linksRows, tableRows}
+use Rattle.links.proofs.LinksBytes.{linksOf-next, linksOf-end}
 use Rattle.placed.proofs.RecordsKept.{same-below, kept-all, kept-most as kept-first}
-use Rattle.pairs.proofs.LinksRows.{Proper, Propers, first-accepted, first-refused, link-accepted, links-here, links-next}
+use Rattle.links.proofs.LinksRows.{Proper, Propers, first-accepted, first-refused, link-accepted, links-here, links-next}
 use Rattle.cutting.specs.declared.Thinned.{Thinned}
 use Rattle.cutting.specs.declared.Thinned.the-variants.{Kept, Refused as Refused·thinned}
 use Rattle.cutting.specs.Rows.{linkRow, thinningRows}

@@ -1,6 +1,4 @@
 -- What cutting's promises cite.
 pub mod Rows
-pub mod Finish
 pub mod Calls
 pub mod Thin
-pub mod Told

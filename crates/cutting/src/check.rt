@@ -1,68 +1,10 @@
-// Checking: a record is judged, and the piles that it leaves are told. The part above the filled table serves every form of links.
+// Checking: a record is judged, and the piles that it leaves are told.
 use crate::Answer;
-use heaps::count_piles;
-use heaps::write_names;
 use meaning::Judged;
-use replay::judge_record;
+use runs::check_table;
 use weighing::fill;
-use weighing::search::search;
-ghost use mathlib.Core.Path.{_≡_};
-ghost use mathlib.Core.List.{_∷_};
-ghost use Prim.Native.Nat.{_≤_, _<_};
-ghost use lib.ListN.{length};
-ghost use Rattle.meaning.specs.Heap.{piles, finished as finishedRun};
-ghost use Rattle.pairs.specs.Links.{whole, linksOf};
-ghost use Rattle.pairs.specs.Side.{heapOf};
-ghost use Rattle.pairs.specs.Table.{held};
-ghost use Rattle.replay.specs.Rows.{recordRows};
-ghost use Rattle.cutting.specs.Rows.{labelRow};
-ghost use Rattle.heaps.specs.Names.{written};
-ghost use Rattle.cutting.specs.Calls.{Checked, Checking};
-
-// The names are written; their piles are counted; and they are searched, which tells whether the run that left them is finished.
-fn tell_piles(
-    table: &[u32; 16384],
-    n: usize,
-    k: u64,
-    names: &[u8; 128],
-    labels: &mut [u8],
-) -> Answer
-    requires { ⌜ n ≤ 128 ⌝ }
-    ensures { λ r. ⌜ r ≡ Answer.Gave (piles n (heapOf (now (names .entry)))) (finishedRun n (held (now (table .entry))) k (heapOf (now (names .entry)))) ⌝ }
-    ensures { λ _. ⌜ now (labels .exit) ≡ written n (heapOf (now (names .entry))) (now (labels .entry)) ⌝ }
-{
-    let split = search(table, names, n, k, 0);
-    let light = split.light;
-    write_names(names, n, labels);
-    Answer::Gave {
-        count: count_piles(names, n),
-        finished: !light,
-    }
-}
-
-// Checking above the filled table: rows 7 and 9 to 13, and then the piles.
-pub(crate) fn check_table(
-    table: &[u32; 16384],
-    n: usize,
-    k: u64,
-    entries: &[u8],
-    labels: &mut [u8],
-) -> Answer
-    requires { ⌜ (0 < n) × (n ≤ 128) ⌝ }
-    ensures { λ r. ⌜ Checked (labelRow n (length (now (labels .entry))) ∷ recordRows n (held (now (table .entry))) k (now (entries .entry))) n (held (now (table .entry))) k (now (entries .entry)) (now (labels .entry)) (now (labels .exit)) r ⌝ }
-{
-    if labels.len() < n {
-        return Answer::Refused {
-            number: 7,
-            place: 0,
-        };
-    }
-    let mut names = [0u8; 128];
-    match judge_record(table, n, k, entries, &mut names) {
-        Judged::Accepted => tell_piles(table, n, k, &names, labels),
-        Judged::Refused { number, place } => Answer::Refused { number, place },
-    }
-}
+ghost use Rattle.links.specs.Links.{whole, linksOf};
+ghost use Rattle.cutting.specs.Calls.{Checking};
 
 // Checks a record: gives the number of piles that it leaves and whether it is finished, and writes each bone's pile name to the label
 // space; or the first refusal, which leaves the label space as it was. Links are lent as bytes, four a link.
@@ -71,7 +13,7 @@ pub fn checking(n: u64, k: u64, links: &[u8], record: &[u8], labels: &mut [u8]) 
 {
     let mut table = [0u32; 16384];
     match fill(n, k, links, &mut table) {
-        Judged::Accepted => check_table(&table, n as usize, k, record, labels),
+        Judged::Accepted => check_table(&table, n, k, record, labels),
         Judged::Refused { number, place } => Answer::Refused { number, place },
     }
 }

@@ -2,27 +2,30 @@
 // so the calls are proved by hand: each fills the table and leaves the rest to functions above the filled table.
 use crate::Answer;
 use crate::Thinned;
-use crate::check::check_table;
-use crate::group::group_table;
 use crate::thin::name_groups;
 use lent::fill_records;
 use lent::keep_links;
 use meaning::Judged;
 use meaning::Link;
+use runs::check_table;
+use runs::group_table;
 ghost use mathlib.Core.Path.{_≡_};
 ghost use mathlib.Core.Bool.{true};
 ghost use mathlib.Core.List.{[], _∷_};
-ghost use Prim.Native.Nat.{ℕ, _≤_, _<_, _^_};
+ghost use Prim.Native.Nat.{ℕ, _<_, _^_};
 ghost use lib.ListN.{length};
 ghost use Rattle.meaning.specs.declared.Judged.the-variants.{Accepted};
 ghost use Rattle.meaning.specs.Judge.{first};
 ghost use Rattle.meaning.specs.Firm.{label};
+ghost use Rattle.links.specs.Links.{countRows};
 ghost use Rattle.pairs.specs.Side.{heapOf};
 ghost use Rattle.pairs.specs.Table.{held};
 ghost use Rattle.replay.specs.Rows.{recordRows};
-ghost use Rattle.cutting.specs.Rows.{labelRow, spaceRow, linkRow};
+ghost use Rattle.runs.specs.Rows.{labelRow, spaceRow};
+ghost use Rattle.runs.specs.Runs.{Checked, Grouped};
+ghost use Rattle.cutting.specs.Rows.{linkRow};
 ghost use Rattle.cutting.specs.Thin.{refused};
-ghost use Rattle.cutting.specs.Calls.{Checked, Checking, Grouped, Grouping, keeping, ThinningRecords};
+ghost use Rattle.cutting.specs.Calls.{Checking, Grouping, keeping, ThinningRecords};
 
 // Checking once the links were judged and added: their refusal, or what the table gives.
 pub(crate) fn check_judged(
@@ -33,11 +36,11 @@ pub(crate) fn check_judged(
     entries: &[u8],
     labels: &mut [u8],
 ) -> Answer
-    requires { ⌜ (judged ≡ Accepted → (0 < n) × (n ≤ 128)) ⌝ }
+    requires { ⌜ (judged ≡ Accepted → first (countRows n k true 0) ≡ Accepted) ⌝ }
     ensures { λ r. ⌜ Checked (judged ∷ labelRow n (length (now (labels .entry))) ∷ recordRows n (held (now (table .entry))) k (now (entries .entry))) n (held (now (table .entry))) k (now (entries .entry)) (now (labels .entry)) (now (labels .exit)) r ⌝ }
 {
     match judged {
-        Judged::Accepted => check_table(table, n as usize, k, entries, labels),
+        Judged::Accepted => check_table(table, n, k, entries, labels),
         Judged::Refused { number, place } => Answer::Refused { number, place },
     }
 }
@@ -61,11 +64,11 @@ pub(crate) fn group_judged(
     labels: &mut [u8],
     space: &mut [u8],
 ) -> Answer
-    requires { ⌜ (judged ≡ Accepted → (0 < n) × (n ≤ 128) × (k ≤ 65535)) ⌝ }
+    requires { ⌜ (judged ≡ Accepted → first (countRows n k true 0) ≡ Accepted) ⌝ }
     ensures { λ r. ⌜ Grouped (judged ∷ labelRow n (length (now (labels .entry))) ∷ spaceRow n (length (now (space .entry))) ∷ recordRows n (held (now (table .entry))) k (now (entries .entry))) n (held (now (table .entry))) k (now (entries .entry)) (now (labels .entry)) (now (labels .exit)) (now (space .entry)) (now (space .exit)) r ⌝ }
 {
     match judged {
-        Judged::Accepted => group_table(table, n as usize, k, entries, labels, space),
+        Judged::Accepted => group_table(table, n, k, entries, labels, space),
         Judged::Refused { number, place } => Answer::Refused { number, place },
     }
 }
@@ -96,7 +99,7 @@ pub(crate) fn label_judged(
     room: usize,
     labels: &mut [u8; 128],
 ) -> Judged
-    requires { ⌜ (judged ≡ Accepted → (0 < n) × (n ≤ 128) × (k ≤ 65535)) ⌝ }
+    requires { ⌜ (judged ≡ Accepted → first (countRows n k true 0) ≡ Accepted) ⌝ }
     ensures { λ r. ⌜ (r ≡ first (judged ∷ linkRow count room ∷ [])) × (r ≡ Accepted → (b : ℕ) → b < n → heapOf (now (labels .exit)) b ≡ label n (held (now (table .entry))) k b) ⌝ }
 {
     match judged {
@@ -109,7 +112,7 @@ pub(crate) fn label_judged(
             place: 0,
         };
     }
-    name_groups(table, n as usize, k, labels);
+    name_groups(table, n, k, labels);
     Judged::Accepted
 }
 

@@ -1,11 +1,12 @@
 // Thinning: the links whose ends share a group stay.
 use crate::Thinned;
-use crate::group::finish;
 use cuts::record::Record;
 use cuts::record::copy;
 use meaning::Judged;
+use runs::group_table;
 use weighing::fill;
 ghost use mathlib.Core.Path.{_≡_};
+ghost use mathlib.Core.Bool.{true};
 ghost use mathlib.Core.List.{[], _∷_};
 ghost use Prim.Native.Nat.{ℕ, _+_, _*_, _/_, _≤_, _<_};
 ghost use lib.Dec.{eqb};
@@ -13,7 +14,7 @@ ghost use lib.ListN.{length, take, drop};
 ghost use Rattle.meaning.specs.declared.Judged.the-variants.{Accepted};
 ghost use Rattle.meaning.specs.Judge.{first};
 ghost use Rattle.meaning.specs.Firm.{label};
-ghost use Rattle.pairs.specs.Links.{whole, linksOf, linkAt, linksRows};
+ghost use Rattle.links.specs.Links.{whole, linksOf, linkAt, countRows, linksRows};
 ghost use Rattle.placed.specs.Records.{sameLabel, keptLinks};
 ghost use Rattle.pairs.specs.Side.{heapOf};
 ghost use Rattle.pairs.specs.Table.{held};
@@ -59,25 +60,25 @@ fn keep(names: &[u8; 128], links: &[u8], space: &mut [u8]) -> usize
     kept
 }
 
-// The names become the labels: from one pile of all bones, cuts are made from the empty record on until every pile is firm.
-pub(crate) fn name_groups(table: &[u32; 16384], n: usize, k: u64, names: &mut [u8; 128])
-    requires { ⌜ (0 < n) × (n ≤ 128) × (k ≤ 65535) ⌝ }
+// The names become the labels: those of grouping from the empty record on, in a record space of its own.
+pub(crate) fn name_groups(table: &[u32; 16384], n: u64, k: u64, names: &mut [u8; 128])
+    requires { ⌜ first (countRows n k true 0) ≡ Accepted ⌝ }
     ensures { λ _. ⌜ ((b : ℕ) → b < n → heapOf (now (names .exit)) b ≡ label n (held (now (table .entry))) k b) ⌝ }
 {
     *names = [0u8; 128];
-    let mut entries = [0u8; 127 * Record::ENTRY];
-    finish(table, n, k, names, &mut entries, Record::empty());
+    let mut space = [0u8; 127 * Record::ENTRY];
+    group_table(table, n, k, b"", names, &mut space);
 }
 
 // Thinning above the filled table: row 14, and then the links that stay.
 pub(crate) fn thin_table(
     table: &[u32; 16384],
-    n: usize,
+    n: u64,
     k: u64,
     links: &[u8],
     space: &mut [u8],
 ) -> Thinned
-    requires { ⌜ (0 < n) × (n ≤ 128) × (k ≤ 65535) × (length (now links) / 4 ≤ 4096) × (first (linksRows n 0 (linksOf (now links))) ≡ Accepted) ⌝ }
+    requires { ⌜ (first (countRows n k true 0) ≡ Accepted) × (length (now links) / 4 ≤ 4096) × (first (linksRows n 0 (linksOf (now links))) ≡ Accepted) ⌝ }
     ensures { λ r. ⌜ Thins linkBytes (linkRow (length (linksOf (now (links .entry)))) (length (now (space .entry)) / 4) ∷ []) n (held (now (table .entry))) k (linksOf (now (links .entry))) (now (space .entry)) (now (space .exit)) r ⌝ }
 {
     if space.len() / 4 < links.len() / 4 {
@@ -100,7 +101,7 @@ pub fn thinning(n: u64, k: u64, links: &[u8], space: &mut [u8]) -> Thinned
 {
     let mut table = [0u32; 16384];
     match fill(n, k, links, &mut table) {
-        Judged::Accepted => thin_table(&table, n as usize, k, links, space),
+        Judged::Accepted => thin_table(&table, n, k, links, space),
         Judged::Refused { number, place } => Thinned::Refused { number, place },
     }
 }

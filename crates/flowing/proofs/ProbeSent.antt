@@ -13,7 +13,7 @@ use lib.Seq.{getD-set-same, getD-set-other}
 use Rattle.meaning.specs.Count.{Bones}
 use Rattle.meaning.proofs.Tests.{decide, fails}
 use Rattle.meaning.proofs.Sums.{sum-ext}
-use Rattle.pairs.specs.Marks.{marked}
+use Rattle.joining.specs.Marks.{marked}
 use Rattle.flowing.specs.Flow.{Ways, leaves, Sent, waysOf, wayOut, leftOf, Moved, Sends, Clear, Flowed}
 use Rattle.flowing.proofs.Flowing.{sent-none, sent-start, sent-forth, sent-back, sent-end}
 

@@ -7,10 +7,11 @@ use crate::sending::start;
 use crate::way::end_x;
 use crate::way::end_y;
 use crate::way::room;
+use joining::is_short;
 ghost use mathlib.Core.Path.{_≡_};
 ghost use Prim.Native.Nat.{_<_, _≤_};
 ghost use lib.ListN.{length};
-ghost use Rattle.pairs.specs.Marks.{marked};
+ghost use Rattle.joining.specs.Marks.{marked};
 ghost use Rattle.flowing.specs.Flow.{leaves, waysOf, wayOut, unmarked, Sends, Clear, Flowed};
 
 // 1 where a bone was reached and is free, else 0.
@@ -147,7 +148,7 @@ fn flow_within(
     let mut res = [0u32; 512];
     start(ways, m, &mut res);
     let mut sent: u64 = 0;
-    while sent < k {
+    while is_short(sent, k) {
         let want = k - sent;
         let d = round(ways, arcs, m, free, t, want as u32, &mut res, seen);
         if d == 0 {

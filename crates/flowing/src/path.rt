@@ -3,7 +3,7 @@
 use crate::way::end_x;
 use crate::way::end_y;
 use crate::way::room;
-use pairs::numbers::bone;
+use joining::numbers::bone;
 ghost use Prim.Native.Nat.{_<_, _≤_};
 
 fn arc_of(x: u16) -> usize {

@@ -15,7 +15,7 @@ use Rattle.meaning.specs.Tally.{Tally, total}
 use Rattle.meaning.proofs.Sums.{sum-next, sum-ext, sum-zero}
 use Rattle.meaning.proofs.Tests.{decide, is-true, is-false, ne→neqb}
 use Rattle.growing.specs.Blocks.{cross, reaches, butFor}
-use Rattle.pairs.specs.Marks.{Room, Grown}
+use Rattle.joining.specs.Marks.{Room, Grown}
 
 cond-most : (b : Bool) (v most : ℕ) → v ≤ most → cond b v 0 ≤ most
 cond-most true v most h = h

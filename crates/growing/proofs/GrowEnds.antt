@@ -14,17 +14,17 @@ use borrow.Author.Tests.{eqb-true}
 use Rattle.meaning.specs.Count.{Bones, sum, count, some}
 use Rattle.meaning.specs.Tally.{Tally, Symmetric, weight}
 use Rattle.meaning.specs.Heap.{Heap}
-use Rattle.meaning.proofs.Tests.{_⇒_, imp, taut, so, _⊃_, decide, same-test, is-true, is-false, eq→eqb, both, left-of, right-of}
+use Rattle.meaning.proofs.Tests.{_⇒_, imp, taut, so, _⊃_, decide, same-test, is-true, is-false, eq→eqb, neqb→ne, both, left-of, right-of}
 use Rattle.meaning.proofs.Sums.{sum-ext, sum-zero, sum-term, count-same}
 use Rattle.meaning.proofs.Sets.{some-intro, some-elim}
 use Rattle.pairs.specs.Side.{heapOf}
 use Rattle.growing.specs.Blocks.{reaches, taken, untaken, BlockNames, Kept, LightSide}
-use Rattle.pairs.specs.Marks.{marked, Filled}
-use Rattle.growing.specs.Grow.{beside, degree, Undivided, joined, Added, Weighed, Spread, Measured, AllByTwo, LightMarks, Reached, Known}
+use Rattle.joining.specs.Marks.{marked, Filled}
+use Rattle.growing.specs.Grow.{beside, degree, Undivided, joined, Added, Weighed, Spread, Measured, AllByTwo, LightMarks, Chosen, Reached, Known}
 use Rattle.growing.specs.Members.{Rising}
 use Rattle.growing.proofs.Adjacency.{untaken-weight}
 use Rattle.growing.proofs.Merging.{weight-on, splits-on, kept-single}
-use Rattle.pairs.proofs.Filling.{cond-yes, cond-no, zeros}
+use Rattle.joining.proofs.Filling.{cond-yes, cond-no, zeros}
 use Rattle.growing.proofs.Growing.{weight-lone, undivided-lone}
 use Rattle.growing.proofs.GrowRows.{added-most}
 use Rattle.growing.proofs.GrowState.{undivided-within, reaches-same, reaches-bone, count-some, beside-in, rule-all}
@@ -58,6 +58,17 @@ marks-as n X old new below rest filled x =
     ∙ is-false (eqb (getD old x 0) 1) (rest x (nltb→le x n f))
     ∙ sym (is-false (X x) (not-T (X x) (λ t. omega (arith, below x t, nltb→le x n f)))))
     (decide (ltb x n))
+
+-- one mark among noughts
+pub marks-one : (b : ℕ) → b < 128 → (x : ℕ) → marked (set (replicate 128 0) b 1) x ≡ eqb x b
+unfolding marked
+marks-one b small x =
+    ⊎-elim
+    (λ t. ap (λ (y : ℕ). eqb (getD (set (replicate 128 0) b 1) y 0) 1) (eqb→eq x b t)
+    ∙ ap (λ (y : ℕ). eqb y 1) (getD-set-same (replicate 128 0) b 1 0 (omega (arith, small, length-replicate {A = ℕ} 128 0)))
+    ∙ sym (is-true (eqb x b) t))
+    (λ f. ap (λ (y : ℕ). eqb y 1) (getD-set-other (replicate 128 0) b x 1 0 (neqb→ne x b f) ∙ zeros 128 x) ∙ sym (is-false (eqb x b) f))
+    (decide (eqb x b))
 
 pub beside-below : (n : ℕ) (S : Bones) (p : ℕ) → ((b : ℕ) → T (S b) → b < n) → (x : ℕ) → T (beside S p x) → x < n
 unfolding beside
@@ -173,6 +184,11 @@ module _ (n : ℕ) (w : Tally) (symmetric : Symmetric w) (k : ℕ) (S : Bones) (
         undivided = λ h. state .undivided;
         counted = λ h. size .counted;
       }
+
+  -- no bone joins any more: a light side was found on the way, or none is known
+  pub reached-stop : {free degrees ties marks : List ℕ} {out left bone weighs : ℕ} (light : Bool) → Spread n w k S p free degrees ties → Measured n w S free ties out left → Chosen n w k S p free marks bone light weighs → Reached n w k S p marks light left weighs
+  reached-stop true state size got = reached-light (got .found refl)
+  reached-stop {left = left} {weighs = weighs} false state size got = subst (λ (m : List ℕ). Reached n w k S p m false left weighs) (sym (got .same refl)) (reached-dark state size)
 
   -- every bone that was free joined at once
   pub reached-all : {free degrees ties : List ℕ} {weighs : ℕ} → n ≤ 128 → Spread n w k S p free degrees ties → AllByTwo n w k (marked free) ties → Reached n w k S p (replicate 128 0) false 0 weighs

@@ -14,7 +14,7 @@ use lib.Seq.{getD-set-same, getD-set-other}
 use Rattle.meaning.specs.Count.{Bones, sum}
 use Rattle.meaning.proofs.Tests.{decide, eq→eqb, ne→neqb}
 use Rattle.meaning.proofs.Sets.{last-or-below}
-use Rattle.pairs.specs.Marks.{Room}
+use Rattle.joining.specs.Marks.{Room}
 use Rattle.growing.specs.Grow.{beside, Added}
 
 -- the first terms of a sum are at most all of them

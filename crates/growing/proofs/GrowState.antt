@@ -15,7 +15,7 @@ use Rattle.meaning.proofs.Tests.{_⇒_, imp, taut, so, _⊃_, decide, same-test
 use Rattle.meaning.proofs.Sums.{sum-ext, sum-add, sum-one}
 use Rattle.meaning.proofs.Totals.{parts}
 use Rattle.growing.specs.Blocks.{reaches}
-use Rattle.pairs.specs.Marks.{marked}
+use Rattle.joining.specs.Marks.{marked}
 use Rattle.growing.specs.Grow.{with-bone, beside, degree, two-step, Undivided, joined, Added, Spread, Measured, Tied, ByTwo, AllByTwo, Chosen, steps}
 use Rattle.growing.specs.Three.{want, spare, passing, ByThree}
 use Rattle.growing.proofs.Adjacency.{Closed}
@@ -248,6 +248,7 @@ chosen {n} {w} {k} {S} {p} {free} {bone} {weighs} {light} v e dark isfree joins 
     record {
       found = λ h. absurd (subst T (sym h ∙ dark) tt);
       same = λ h. refl;
-      one = λ h l. subst (λ (x : ℕ). T (marked free x)) (sym e) (isfree (omega arith));
-      joins = λ h l. subst (λ (x : ℕ). Undivided n w k S (with-bone (joined S (marked free)) x)) (sym e) (joins (omega arith));
+      dark = λ l. dark;
+      one = λ l. subst (λ (x : ℕ). T (marked free x)) (sym e) (isfree (omega arith));
+      joins = λ l. subst (λ (x : ℕ). Undivided n w k S (with-bone (joined S (marked free)) x)) (sym e) (joins (omega arith));
     }

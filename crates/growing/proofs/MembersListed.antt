@@ -16,7 +16,7 @@ use Rattle.meaning.specs.Tally.{Tally}
 use Rattle.meaning.proofs.Tests.{decide, same-test, eq→eqb}
 use Rattle.meaning.proofs.Sums.{sum-ext, sum-next}
 use Rattle.meaning.proofs.Sets.{last-or-below}
-use Rattle.pairs.proofs.Filling.{cond-yes, cond-no}
+use Rattle.joining.proofs.Filling.{cond-yes, cond-no}
 use Rattle.growing.specs.Blocks.{reaches}
 use Rattle.growing.specs.Grow.{beside, degree}
 use Rattle.growing.specs.Members.{Rising, Members}

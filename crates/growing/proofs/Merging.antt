@@ -17,7 +17,7 @@ use Rattle.meaning.specs.Heap.{Heap}
 use Rattle.meaning.proofs.Tests.{taut, so, _⊃_, decide, is-true, eq→eqb, neqb→ne, both, left-of, right-of}
 use Rattle.meaning.proofs.Sums.{sum-ext, sum-add, sum-term}
 use Rattle.meaning.proofs.Firm.{weight-same, weight-inside, splits-intro, splits-elim, firm-intro}
-use Rattle.pairs.specs.Marks.{marked}
+use Rattle.joining.specs.Marks.{marked}
 use Rattle.growing.specs.Blocks.{BlockNames, blocks, Kept}
 use Rattle.growing.proofs.Adjacency.{Closed}
 

@@ -14,7 +14,7 @@ use Rattle.meaning.proofs.Sets.{some-intro}
 use Rattle.meaning.proofs.Totals.{total-ext}
 use Rattle.meaning.proofs.Firm.{other, weight-other, weight-same}
 use Rattle.growing.specs.Blocks.{untaken, LightSide}
-use Rattle.pairs.specs.Marks.{marked}
+use Rattle.joining.specs.Marks.{marked}
 use Rattle.growing.specs.Grow.{beside, joined, Probed}
 use Rattle.flowing.specs.Flow.{Ways, Carried, unmarked, Flowed}
 use Rattle.growing.specs.Listing.{Lists}

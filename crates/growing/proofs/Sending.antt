@@ -14,8 +14,8 @@ use Rattle.meaning.specs.Count.{Bones, sum}
 use Rattle.meaning.specs.Tally.{Tally}
 use Rattle.meaning.proofs.Tests.{decide, eq→eqb, neqb→ne, both}
 use Rattle.meaning.proofs.Sums.{sum-ext, sum-mono, sum-add, sum-one, sum-next}
-use Rattle.pairs.specs.Marks.{Filled}
-use Rattle.pairs.proofs.Filling.{cond-yes, cond-no, zeros}
+use Rattle.joining.specs.Marks.{Filled}
+use Rattle.joining.proofs.Filling.{cond-yes, cond-no, zeros}
 use Rattle.growing.specs.Blocks.{reaches}
 use Rattle.growing.specs.Grow.{beside}
 use Rattle.growing.specs.Three.{want, spare, wanted, passing, ByThree, Sent}

@@ -12,7 +12,7 @@ use Rattle.meaning.specs.Firm.{splits}
 use Rattle.meaning.specs.Heap.{Heap, stands}
 use Rattle.pairs.specs.Side.{heapOf}
 use Rattle.growing.specs.Blocks.{reaches, BlockNames, Kept, LightSide}
-use Rattle.pairs.specs.Marks.{marked}
+use Rattle.joining.specs.Marks.{marked}
 
 -- a pile stands under the name p, among 128 bones at most
 unfoldable pub seen : ℕ → Heap → ℕ → Bool
@@ -114,8 +114,9 @@ pub record Probed (n : ℕ) (w : Tally) (k : ℕ) (S : Bones) (p t : ℕ) (free 
 pub record Chosen (n : ℕ) (w : Tally) (k : ℕ) (S : Bones) (p : ℕ) (free marks : List ℕ) (bone : ℕ) (light : Bool) (weighs : ℕ) : Type 0 where
   pub found : light ≡ true → LightMarks n w k S p marks weighs
   pub same : light ≡ false → marks ≡ free
-  pub one : light ≡ false → bone < 128 → T (marked free bone)
-  pub joins : light ≡ false → bone < 128 → Undivided n w k S (with-bone (joined S (marked free)) bone)
+  pub dark : bone < 128 → light ≡ false
+  pub one : bone < 128 → T (marked free bone)
+  pub joins : bone < 128 → Undivided n w k S (with-bone (joined S (marked free)) bone)
 
 -- what a growth ends with: a light side, or an L that no light split need divide, and how many bones are free
 pub record Reached (n : ℕ) (w : Tally) (k : ℕ) (S : Bones) (p : ℕ) (free : List ℕ) (light : Bool) (left weighs : ℕ) : Type 0 where

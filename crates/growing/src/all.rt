@@ -5,7 +5,7 @@ ghost use mathlib.Core.Bool.{true};
 ghost use Prim.Native.Nat.{ℕ, _<_, _≤_, _^_};
 ghost use lib.ListN.{getD};
 ghost use Rattle.pairs.specs.Table.{held};
-ghost use Rattle.pairs.specs.Marks.{marked};
+ghost use Rattle.joining.specs.Marks.{marked};
 ghost use Rattle.growing.specs.Grow.{steps, AllByTwo};
 
 // Whether the tie and the paths of two of every free bone come to k or more. It stops at the first of which it is not so.

@@ -6,18 +6,20 @@ use crate::members::list_members;
 use crate::row::add_row;
 use crate::row::degree_of;
 use crate::tied::choose;
-use pairs::numbers::bone;
-use pairs::numbers::wide;
+use joining::numbers::bone;
+use joining::numbers::wide;
+use joining::out_with;
+use joining::single;
 ghost use mathlib.Core.Path.{_≡_};
 ghost use mathlib.Core.Bool.{true, false, cond, not};
 ghost use Prim.Native.Nat.{ℕ, _+_, _*_, _-_, _<_, _≤_, _^_};
-ghost use lib.Dec.{T, eqb};
-ghost use lib.ListN.{length, getD, replicate};
+ghost use lib.Dec.{T};
+ghost use lib.ListN.{length, getD, set, replicate};
 ghost use Rattle.meaning.specs.Count.{Bones, count};
 ghost use Rattle.meaning.specs.Heap.{pile, stands};
 ghost use Rattle.pairs.specs.Table.{held};
 ghost use Rattle.pairs.specs.Side.{heapOf};
-ghost use Rattle.pairs.specs.Marks.{marked, Filled};
+ghost use Rattle.joining.specs.Marks.{marked, Filled};
 ghost use Rattle.growing.specs.Members.{Rising, Members};
 ghost use Rattle.growing.specs.Grow.{seen, beside, degree, joined, Weighed, Lone, Reached, Known};
 
@@ -97,21 +99,13 @@ fn lone_light(
     first_light(table, &who, m, free, k, degrees)
 }
 
-// 1 where the two are the same, else 0.
-fn same(x: usize, b: usize) -> u8
-    ensures { λ r. ⌜ r ≡ cond (eqb x b) 1 0 ⌝ }
-{
-    if x == b { 1 } else { 0 }
-}
-
 // Bone b alone is marked.
-fn mark_only(n: usize, b: usize, marks: &mut [u8; 128])
-    requires { ⌜ (n ≤ 128) × (length (now marks) ≡ 128) ⌝ }
-    ensures { λ r. ⌜ Filled (now (marks .entry)) (now (marks .exit)) (λ x. cond (eqb x b) 1 0) n ⌝ }
+fn mark_only(b: usize, marks: &mut [u8; 128])
+    requires { ⌜ b < 128 ⌝ }
+    ensures { λ r. ⌜ now (marks .exit) ≡ set (replicate 128 0) b 1 ⌝ }
 {
-    for x in 0..n {
-        marks[x] = same(x, b);
-    }
+    *marks = [0u8; 128];
+    marks[b] = 1;
 }
 
 // What a growth came to: a light side, left as marks, and its weight; or how many bones are still free.
@@ -121,12 +115,12 @@ pub(crate) struct Growth {
     pub(crate) weight: u64,
 }
 
-// What the grown set weighs with bone v, where it weighs `out` without: v's degree more, less its tie on either side.
-fn out_with(degrees: &[u32; 128], ties: &[u64; 128], out: u64, v: usize) -> u64
+// What the grown set weighs with bone v, where it weighs `out` without.
+fn weight_with(degrees: &[u32; 128], ties: &[u64; 128], out: u64, v: usize) -> u64
     requires { ⌜ (v < 128) × (out + getD (now degrees) v 0 < 2 ^ 64) × (2 * getD (now ties) v 0 ≤ out + getD (now degrees) v 0) ⌝ }
     ensures { λ r. ⌜ r ≡ out + getD (now (degrees .entry)) v 0 - 2 * getD (now (ties .entry)) v 0 ⌝ }
 {
-    out + wide(degrees[v]) - 2 * ties[v]
+    out_with(out, degrees[v], ties[v])
 }
 
 // Bones join p as long as one is known that can, and the set so grown weighs k or more. `left` bones are free, and p's degree is `own`. The
@@ -186,23 +180,15 @@ fn spread(
             free,
         );
         let v = got.bone;
-        let light = got.light;
         pairs = got.pairs;
-        if light {
+        if 128 <= v {
             return Growth {
-                light: true,
+                light: got.light,
                 left,
                 weight: got.weight,
             };
         }
-        if 128 <= v {
-            return Growth {
-                light: false,
-                left,
-                weight: 0,
-            };
-        }
-        out = out_with(degrees, &ties, out, v);
+        out = weight_with(degrees, &ties, out, v);
         free[v] = 0;
         left = left - 1;
         add_row(table, n, v, &mut ties);
@@ -244,16 +230,6 @@ fn name_joined(names: &[u8; 128], free: &[u8; 128], n: usize, p: usize, block: &
     }
 }
 
-// Every bone is a block of its own.
-fn single(block: &mut [u8; 128])
-    requires { ⌜ length (now block) ≡ 128 ⌝ }
-    ensures { λ r. ⌜ Filled (now (block .entry)) (now (block .exit)) (λ b. b) 128 ⌝ }
-{
-    for b in 0..128 {
-        block[b] = b as u8;
-    }
-}
-
 // What is found of a pile: a light side and its weight, or that it is one block. Where neither, its blocks are known.
 pub struct Outcome {
     pub light: bool,
@@ -271,7 +247,7 @@ fn grow_pile(
     block: &mut [u8; 128],
     free: &mut [u8; 128],
 ) -> Outcome
-    requires { ⌜ (n ≤ 128) × (length (now block) ≡ 128) × (length (now free) ≡ 128) ⌝ }
+    requires { ⌜ (n ≤ 128) × (length (now free) ≡ 128) ⌝ }
     requires { ⌜ ((x : ℕ) → n ≤ x → T (not (marked (now free) x))) ⌝ }
     requires { ⌜ T (stands n (heapOf (now names)) p) ⌝ }
     ensures { λ r. ⌜ Known n (held (now (table .entry))) k (pile n (heapOf (now (names .entry))) p) p (now (block .exit)) (now (free .exit)) (r .light) (r .one) (r .weight) ⌝ }
@@ -288,7 +264,7 @@ fn grow_pile(
     let mut degrees = [0u32; 128];
     let lone = lone_light(table, names, n, k, p, free, &mut degrees);
     if lone < 128 {
-        mark_only(n, lone, free);
+        mark_only(lone, free);
         return Outcome {
             light: true,
             one: false,
@@ -333,7 +309,6 @@ pub fn grow(
     ensures { λ r. ⌜ (T (seen n (heapOf (now (names .entry))) p) → Known n (held (now (table .entry))) k (pile n (heapOf (now (names .entry))) p) p (now (block .exit)) (now (free .exit)) (r .light) (r .one) (r .weight)) ⌝ }
     ensures { λ r. ⌜ (T (not (seen n (heapOf (now (names .entry))) p)) → (r .light ≡ false) × (r .one ≡ true) × (r .weight ≡ 0) × (now (block .exit) ≡ replicate 128 0) × (now (free .exit) ≡ replicate 128 0)) ⌝ }
 {
-    *block = [0u8; 128];
     *free = [0u8; 128];
     if n <= 128 {
         if p < n {
@@ -342,6 +317,7 @@ pub fn grow(
             }
         }
     }
+    *block = [0u8; 128];
     Outcome {
         light: false,
         one: true,

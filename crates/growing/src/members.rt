@@ -1,6 +1,6 @@
 // The bones of a pile, listed in order: a sum over a small pile passes by no other bone, and needs no test of which bone is greater.
 use crate::row::pair;
-use pairs::numbers::bone;
+use joining::numbers::bone;
 ghost use mathlib.Core.Path.{_≡_};
 ghost use mathlib.Core.Bool.{cond, not};
 ghost use Prim.Native.Nat.{ℕ, _*_, _<_, _≤_, _^_};

@@ -10,7 +10,7 @@ ghost use lib.ListN.{length};
 ghost use Rattle.meaning.specs.Heap.{pile};
 ghost use Rattle.pairs.specs.Table.{held};
 ghost use Rattle.pairs.specs.Side.{heapOf};
-ghost use Rattle.pairs.specs.Marks.{marked};
+ghost use Rattle.joining.specs.Marks.{marked};
 ghost use Rattle.growing.specs.Grow.{beside, Probed};
 ghost use Rattle.growing.specs.Listing.{Ready};
 

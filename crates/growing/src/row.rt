@@ -1,7 +1,7 @@
 // One bone's row of the pair table. A pair's tally stands in the row of its greater bone, so a row is read in two parts: along the row for
 // the lesser bones, down the column for the greater ones. Neither part has a test of which bone is greater.
-use pairs::numbers::bone;
-use pairs::numbers::wide;
+use joining::numbers::bone;
+use joining::numbers::wide;
 ghost use mathlib.Core.Path.{_≡_};
 ghost use mathlib.Core.Bool.{cond};
 ghost use Prim.Native.Nat.{_+_, _*_, _<_, _≤_, _^_};
@@ -9,7 +9,7 @@ ghost use Rattle.meaning.specs.Count.{sum};
 ghost use Rattle.meaning.specs.Heap.{pile};
 ghost use Rattle.pairs.specs.Table.{held};
 ghost use Rattle.pairs.specs.Side.{heapOf};
-ghost use Rattle.pairs.specs.Marks.{Room};
+ghost use Rattle.joining.specs.Marks.{Room};
 ghost use Rattle.growing.specs.Grow.{beside, degree, Added};
 
 // The tally of two bones, the greater first.

@@ -6,7 +6,7 @@ ghost use mathlib.Core.Bool.{true};
 ghost use Prim.Native.Nat.{ℕ, _+_, _<_, _≤_, _^_, min};
 ghost use lib.ListN.{length, getD};
 ghost use Rattle.pairs.specs.Table.{held};
-ghost use Rattle.pairs.specs.Marks.{marked, Filled};
+ghost use Rattle.joining.specs.Marks.{marked, Filled};
 ghost use Rattle.growing.specs.Three.{want, spare, Sent, ByThree};
 
 fn lesser(a: u64, b: u64) -> u64

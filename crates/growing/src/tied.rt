@@ -3,7 +3,7 @@
 use crate::probe::probe;
 use crate::row::pair;
 use crate::three::by_three;
-use pairs::numbers::wide;
+use joining::ties_enough;
 ghost use mathlib.Core.Path.{_≡_};
 ghost use mathlib.Core.Bool.{cond, false};
 ghost use Prim.Native.Nat.{ℕ, _+_, _*_, _<_, _≤_, _^_, min};
@@ -13,22 +13,18 @@ ghost use Rattle.meaning.specs.Count.{sum};
 ghost use Rattle.meaning.specs.Heap.{pile};
 ghost use Rattle.pairs.specs.Table.{held};
 ghost use Rattle.pairs.specs.Side.{heapOf};
-ghost use Rattle.pairs.specs.Marks.{marked};
+ghost use Rattle.joining.specs.Marks.{marked};
 ghost use Rattle.growing.specs.Grow.{beside, steps, Spread, Tied, ByTwo, Chosen};
 ghost use Rattle.growing.specs.Listing.{Ready};
 
 // The first free bone that has k or more of its tally, or half of its degree, to the grown set; 128 where there is none.
 fn tied(free: &[u8; 128], degrees: &[u32; 128], ties: &[u64; 128], n: usize, k: u64) -> usize
-    requires { ⌜ (n ≤ 128) × ((x : ℕ) → getD (now ties) x 0 ≤ 2 ^ 40) ⌝ }
+    requires { ⌜ n ≤ 128 ⌝ }
     ensures { λ r. ⌜ Tied k (marked (now (free .entry))) (now (degrees .entry)) (now (ties .entry)) r ⌝ }
 {
     for v in 0..n {
         if free[v] == 1 {
-            let tie = ties[v];
-            if k <= tie {
-                return v;
-            }
-            if wide(degrees[v]) <= 2 * tie {
+            if ties_enough(degrees[v], ties[v], k) {
                 return v;
             }
         }
@@ -136,7 +132,7 @@ pub(crate) struct Choice {
 }
 
 // A bone that joins.
-fn joining(bone: usize, pairs: usize) -> Choice
+fn joins(bone: usize, pairs: usize) -> Choice
     ensures { λ r. ⌜ (r .bone ≡ bone) × (r .light ≡ false) × (r .pairs ≡ pairs) ⌝ }
 {
     Choice {
@@ -171,21 +167,21 @@ pub(crate) fn choose(
 {
     let v = tied(free, degrees, ties, n, k);
     if v < 128 {
-        return joining(v, m);
+        return joins(v, m);
     }
     let t = nearest(free, ties, n);
     if 128 <= t {
-        return joining(t, m);
+        return joins(t, m);
     }
     let two = steps_of(table, free, ties, n, k, t);
     if k <= two {
-        return joining(t, m);
+        return joins(t, m);
     }
     let got = probe(table, names, n, k, p, t, ways, arcs, m, free);
     let verdict = got.verdict;
     let pairs = got.pairs;
     if verdict == 1 {
-        return joining(t, pairs);
+        return joins(t, pairs);
     }
     if verdict == 2 {
         return Choice {
@@ -196,7 +192,7 @@ pub(crate) fn choose(
         };
     }
     if by_three(table, free, ties, n, k, t, two) {
-        return joining(t, pairs);
+        return joins(t, pairs);
     }
-    joining(tied_by_two(table, free, ties, n, k), pairs)
+    joins(tied_by_two(table, free, ties, n, k), pairs)
 }

@@ -3,7 +3,7 @@
 // End x is the greater bone, and its pairs with lesser ones are listed together: `arcs` has for each bone b, at 512 + b, the first of its
 // arcs, and only for the arc back of each pair q, at q, which of the bone's arcs comes next.
 use crate::row::pair;
-use pairs::numbers::bone;
+use joining::numbers::bone;
 ghost use mathlib.Core.Path.{_≡_};
 ghost use Prim.Native.Nat.{_+_, _<_, _≤_, min};
 ghost use lib.Dec.{T};

@@ -35,7 +35,7 @@ use denote.Triple.Spec.{tripleOf}
 use Rattle.meaning.specs.declared.Link.{Link}
 use Rattle.meaning.specs.declared.Judged.{Judged}
 use Rattle.meaning.specs.Judge.{first}
-use Rattle.pairs.specs.Links.{tableRows}
+use Rattle.links.specs.Links.{tableRows}
 use Rattle.pairs.specs.Table.{filled}
 use Rattle.placed.proofs.RecordsLink.{R, J, told, IsJudged, told-so}
 use Rattle.lent.proofs.RecordsCalls.{calls-to}

@@ -15,12 +15,12 @@ use Rattle.meaning.specs.declared.Link.{Link}
 use Rattle.meaning.specs.declared.Judged.{Judged}
 use Rattle.meaning.specs.declared.Judged.the-variants.{Accepted, Refused}
 use Rattle.meaning.specs.Judge.{refuse, first}
-use Rattle.pairs.specs.Links.{linkRows, linksRows, countRows, tableRows}
+use Rattle.links.specs.Links.{linkRows, linksRows, countRows, tableRows}
 use Rattle.pairs.specs.Table.{added, tallied, filled}
 use Rattle.placed.proofs.RecordsKept.{take-next}
 use Rattle.placed.specs.Records.{noLink, firstOf, upTo, refusedOne, refusedLinks, toJudge}
 use Rattle.pairs.proofs.TableAdds.{tallied-append}
-use Rattle.pairs.proofs.LinksRows.{counts-accepted, Proper, Propers, links-accepted, links-proper, propers-more, table-counted, table-proper}
+use Rattle.links.proofs.LinksRows.{counts-accepted, Proper, Propers, links-accepted, links-proper, propers-more, table-counted, table-proper}
 
 -- the first refusal of two, where the first is known
 pub firstOf-accepted : {j : Judged} (k : Judged) → j ≡ Accepted → k ≡ firstOf j k

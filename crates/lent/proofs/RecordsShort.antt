@@ -20,7 +20,7 @@ use denote.Struct.Laws as LL
 use Rattle.meaning.specs.declared.Link.{Link}
 use Rattle.meaning.proofs.Link as L
 use Rattle.meaning.proofs.Link.Laws as L′
-use Rattle.pairs.proofs.LinksBytes.{Short}
+use Rattle.links.proofs.LinksBytes.{Short}
 use Rattle.placed.proofs.RecordsLink.{R, vals, tells, copied}
 use Rattle.lent.proofs.RecordsRead.{Own}
 

@@ -1,9 +1,9 @@
 // Links lent as a run of link records, read and written where they stand. The borrow checker covers no slice of structs, so each function that
 // takes one is proved by hand: they are few, and leave the work to functions on one link, on numbers and on the table.
+use links::judge_counts;
+use links::judge_link;
 use meaning::Judged;
 use meaning::Link;
-use pairs::links::judge_counts;
-use pairs::links::judge_link;
 use pairs::table::add_within;
 use placed::link_at;
 use placed::same_label;
@@ -14,7 +14,7 @@ ghost use mathlib.Core.Bool.{true};
 ghost use lib.ListN.{length, getD, take};
 ghost use Rattle.meaning.specs.Judge.{first};
 ghost use Rattle.meaning.specs.declared.Judged.the-variants.{Accepted};
-ghost use Rattle.pairs.specs.Links.{linkRows, linksRows, tableRows};
+ghost use Rattle.links.specs.Links.{linkRows, linksRows, tableRows};
 ghost use Rattle.pairs.specs.Table.{added, tallied, filled};
 ghost use Rattle.placed.specs.Records.{noLink, firstOf, upTo, refusedOne, refusedLinks, toJudge, keptLinks, written};
 

@@ -16,10 +16,10 @@ use Rattle.meaning.specs.Judge.{first}
 use Rattle.meaning.specs.Count.{Bones}
 use Rattle.meaning.specs.Tally.{joins, pairTally, weight}
 use Rattle.meaning.proofs.Totals.{Symmetric, total-same}
-use Rattle.pairs.specs.Links.{tableRows}
+use Rattle.links.specs.Links.{tableRows}
 use Rattle.pairs.specs.Table.{spot, held, added, tallied}
-use Rattle.pairs.proofs.LinksRows.{Propers, propers-more, table-counted, table-proper}
-use Rattle.pairs.proofs.LinksBytes.{Short}
+use Rattle.links.proofs.LinksRows.{Propers, propers-more, table-counted, table-proper}
+use Rattle.links.proofs.LinksBytes.{Short}
 use Rattle.pairs.proofs.TableSpots.{spot-symmetric, spot-below, joins-symmetric, joins-spot}
 
 -- every table holds a symmetric tally, and links make one

@@ -1,6 +1,4 @@
 -- What the promises of the pair table cite.
 pub mod Table
-pub mod Links
 pub mod Side
 pub mod Weigh
-pub mod Marks

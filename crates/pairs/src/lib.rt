@@ -1,6 +1,4 @@
 // The pair table: links judged and added to it, a pair's tally read from it, and the weight of a side of a pile.
-pub mod links;
-pub mod numbers;
 mod side;
 pub mod table;
 

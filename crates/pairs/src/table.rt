@@ -1,13 +1,13 @@
 // The pair table: links are judged, and then added to it.
-use crate::links::judge;
-use crate::links::link_at;
-use crate::numbers::wide;
+use joining::numbers::wide;
+use links::judge;
+use links::link_at;
 use meaning::Judged;
 ghost use mathlib.Core.Path.{_≡_};
 ghost use Prim.Native.Nat.{_%_, _<_, _^_};
 ghost use Rattle.meaning.specs.Judge.{first};
 ghost use Rattle.meaning.specs.declared.Judged.the-variants.{Accepted};
-ghost use Rattle.pairs.specs.Links.{linksOf, whole, linksRows, tableRows};
+ghost use Rattle.links.specs.Links.{linksOf, whole, linksRows, tableRows};
 ghost use Rattle.pairs.specs.Table.{spot, held, added, tallied, filled};
 
 // Where the tally of a pair stands.

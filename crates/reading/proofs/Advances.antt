@@ -3,28 +3,32 @@
 use Prim.Native.Nat.{ℕ, suc, _+_, _*_, _/_, _≤_, _<_}
 use mathlib.Core.Path.{_≡_, refl, sym, _∙_, ap}
 use mathlib.Core.Bool.{true, false, true≢false}
+use mathlib.Core.Logic.{⊎-elim}
 use mathlib.Core.List.{List, []}
 use native.Mathlib.Numerals.{add-one}
 use native.Mathlib.Omega.{arith}
-use lib.Dec.{T}
+use lib.Dec.{T, eqb, eqb→eq}
 use lib.ListN.{length, drop, length-append, drop-of-length-le}
 use Rattle.meaning.specs.declared.Judged.{Judged}
 use Rattle.meaning.specs.declared.Judged.the-variants.{Accepted, Refused}
 use Rattle.meaning.specs.Judge.{first}
-use Rattle.meaning.proofs.Tests.{holds, fails}
+use Rattle.meaning.proofs.Tests.{holds, fails, decide, neqb→ne}
 use Rattle.cuts.specs.Record.{entrySize}
 use Rattle.reading.specs.declared.Reading.the-variants.{Got, Refused as Refused·reading}
 use Rattle.reading.specs.declared.frame.Frame.{Frame}
-use Rattle.reading.specs.declared.stage.Stage.{Stage}
-use Rattle.reading.specs.declared.stage.Stage.the-variants.{Opening, Linking, Cutting, Closed}
-use Rattle.reading.specs.declared.judge.Progress.{Progress}
-use Rattle.reading.specs.Lines.{Line, linesOf, after, open-at, lineRows}
+use Rattle.stages.specs.declared.stage.Stage.{Stage}
+use Rattle.stages.specs.declared.stage.Stage.the-variants.{Opening, Linking, Cutting, Closed}
+use Rattle.stages.specs.declared.progress.Progress.{Progress}
+use Rattle.stages.specs.Step.{leads, Stepped}
+use Rattle.stages.proofs.Stages.{leads-on}
+use Rattle.stages.proofs.Steps.{one-more, as-many}
+use Rattle.stages.specs.Stages.{after, open-at}
+use Rattle.reading.specs.Lines.{Line, linesOf, lineRows}
 use Rattle.reading.specs.Reader.{read, entryIn, linksIn, entriesIn, bonesIn, thresholdIn}
 use Rattle.reading.specs.Walk.{byteAt, digitsAt, sizeAt, Found}
 use Rattle.reading.specs.Judging.{Passes, LineJudged, Small, Ready, Advanced, headFrom, answer, readFrom}
 use Rattle.reading.proofs.Lines.{front}
 use Rattle.reading.proofs.Walks.{size-of, well-digits, well-room}
-use Rattle.reading.proofs.Stages.{after-head, after-link, after-cut, after-note, after-close, close-only}
 use Rattle.reading.proofs.Judging.{row-applies, row-passes, rest, rest-at, rows-pass, head-read, head-kept}
 use Rattle.reading.proofs.ReadsText.{bones-front, threshold-front, links-front, links-skip, entries-front, entries-skip, entry-length}
 
@@ -133,51 +137,73 @@ module _ (text : List ℕ) (s s′ : Progress) (small : Small text s) (p : Passe
         same = other-answer f en ek (omega (arith, ap length (links-skip cs (p .well) g))) (omega (arith, ap length (entries-skip cs (p .well) h)));
       }
 
--- the same, from the frame that was found: by its kind, at the stage where it leads
-module _ (text : List ℕ) (s s′ : Progress) (f : Frame) (r : Ready text s f) (at′ : s′ .at ≡ s .at + 2 * f .size + 1) (line′ : s′ .line ≡ s .line + 1) where
+-- the frame stands within the text
+ready-room : (text : List ℕ) (s : Progress) (f : Frame) → Ready text s f → s .at + 2 * f .size < length text
+ready-room text s f r = omega (arith, well-room text (s .at) (r .passes .well), r .found .size (r .some))
+
+-- the same, from the frame that was found and the step behind it
+module _ (text : List ℕ) (s t : Progress) (f : Frame) (r : Ready text s f) (p : Stepped s (f .kind) (f .size) t) where
   abbrev kind-here : ℕ
   kind-here = byteAt (drop (s .at) text) 0
 
   found-kind : f .kind ≡ kind-here
   found-kind = r .found .kind (r .some)
 
-  moved : s′ .stage ≡ after (s .stage) kind-here → Moved text s s′
-  moved stage′ = record { place = at′ ∙ ap (λ (n : ℕ). s .at + 2 * n + 1) (r .found .size (r .some)); line = line′; stage = stage′ }
+  moved : Moved text s t
+  moved =
+      let small = r .small in
+      let place : t .at ≡ s .at + 2 * f .size + 1 = omega (arith, p .place, ready-room text s f r) in
+      record {
+        place = place ∙ ap (λ (n : ℕ). s .at + 2 * n + 1) (r .found .size (r .some));
+        line = omega (arith, p .line);
+        stage = p .stage ∙ ap (leads (s .stage)) found-kind ∙ leads-on (s .stage) kind-here (r .passes .order);
+      }
 
-  pub go-head : s′ .stage ≡ Linking → f .kind ≡ 1 → s′ .n ≡ byteAt (drop (s .at) text) 1
-      → s′ .k ≡ byteAt (drop (s .at) text) 2 * 256 + byteAt (drop (s .at) text) 3 → s′ .links ≡ s .links → s′ .cuts ≡ s .cuts → Advanced text s s′
-  go-head stage′ e =
-      let here = sym found-kind ∙ e in
-      advance-head text s s′ (r .small) (r .passes) (moved (stage′ ∙ after-head (s .stage) kind-here (r .passes .order) here)) here
+  more-links : f .kind ≡ 2 → t .links ≡ s .links + 1
+  more-links e = let small = r .small in one-more (f .kind) 2 (s .links) (t .links) e (omega arith) (p .links)
 
-  pub go-link : s′ .stage ≡ Linking → f .kind ≡ 2 → s′ .n ≡ s .n → s′ .k ≡ s .k → s′ .links ≡ s .links + 1 → s′ .cuts ≡ s .cuts → Advanced text s s′
-  go-link stage′ e =
-      let here = sym found-kind ∙ e in
-      advance-link text s s′ (r .small) (r .passes) (moved (stage′ ∙ after-link (s .stage) kind-here (r .passes .order) here)) here
+  more-cuts : f .kind ≡ 3 → t .cuts ≡ s .cuts + 1
+  more-cuts e = let small = r .small in one-more (f .kind) 3 (s .cuts) (t .cuts) e (omega arith) (p .cuts)
 
-  pub go-cut : s′ .stage ≡ Cutting → f .kind ≡ 3 → s′ .n ≡ s .n → s′ .k ≡ s .k → s′ .links ≡ s .links → s′ .cuts ≡ s .cuts + 1 → Advanced text s s′
-  go-cut stage′ e =
-      let here = sym found-kind ∙ e in
-      advance-cut text s s′ (r .small) (r .passes) (moved (stage′ ∙ after-cut (s .stage) kind-here (r .passes .order) here)) here
+  same-links : (f .kind ≡ 2 → ⊥) → t .links ≡ s .links
+  same-links g = as-many (f .kind) 2 (s .links) (t .links) g (p .links)
 
-  pub go-note : s′ .stage ≡ s .stage → f .kind ≡ 5 → s′ .n ≡ s .n → s′ .k ≡ s .k → s′ .links ≡ s .links → s′ .cuts ≡ s .cuts → Advanced text s s′
-  go-note stage′ e =
-      let here = sym found-kind ∙ e in
-      advance-other text s s′ (r .small) (r .passes) (moved (stage′ ∙ after-note (s .stage) kind-here (r .passes .order) here))
-      (λ q. omega (arith, here)) (λ q. omega (arith, here)) (λ q. omega (arith, here))
+  same-cuts : (f .kind ≡ 3 → ⊥) → t .cuts ≡ s .cuts
+  same-cuts g = as-many (f .kind) 3 (s .cuts) (t .cuts) g (p .cuts)
 
-  pub go-close : s′ .stage ≡ Closed → (f .kind ≡ 1 → ⊥) → (f .kind ≡ 2 → ⊥) → (f .kind ≡ 3 → ⊥) → (f .kind ≡ 5 → ⊥)
-      → s′ .n ≡ s .n → s′ .k ≡ s .k → s′ .links ≡ s .links → s′ .cuts ≡ s .cuts → Advanced text s s′
-  go-close stage′ a b c d =
-      let order = r .passes .order in
-      let here = close-only (s .stage) kind-here order (λ e. a (found-kind ∙ e)) (λ e. b (found-kind ∙ e)) (λ e. c (found-kind ∙ e)) (λ e. d (found-kind ∙ e)) in
-      advance-other text s s′ (r .small) (r .passes) (moved (stage′ ∙ after-close (s .stage) kind-here order here))
-      (λ q. omega (arith, here)) (λ q. omega (arith, here)) (λ q. omega (arith, here))
+  -- behind a head, with its numbers
+  pub go-head : (n k : ℕ) → f .kind ≡ 1 → n ≡ byteAt (drop (s .at) text) 1 → k ≡ byteAt (drop (s .at) text) 2 * 256 + byteAt (drop (s .at) text) 3
+      → Advanced text s (record { at = t .at; line = t .line; stage = t .stage; n = n; k = k; links = t .links; cuts = t .cuts })
+  go-head n k e en ek =
+      advance-head text s (record { at = t .at; line = t .line; stage = t .stage; n = n; k = k; links = t .links; cuts = t .cuts }) (r .small) (r .passes)
+      (record { place = moved .place; line = moved .line; stage = moved .stage }) (sym found-kind ∙ e) en ek
+      (same-links (λ q. omega arith)) (same-cuts (λ q. omega arith))
 
--- the frame stands within the text, and a head's bytes are digits
-pub ready-room : (text : List ℕ) (s : Progress) (f : Frame) → Ready text s f → s .at + 2 * f .size < length text
-ready-room text s f r = omega (arith, well-room text (s .at) (r .passes .well), r .found .size (r .some))
+  -- behind any other frame
+  pub go-on : (f .kind ≡ 1 → ⊥) → Advanced text s t
+  go-on no-head =
+      ⊎-elim
+      (λ u.
+      let e = eqb→eq (f .kind) 2 u in
+      advance-link text s t (r .small) (r .passes) moved (sym found-kind ∙ e) (p .n) (p .k) (more-links e) (same-cuts (λ q. omega arith)))
+      (λ u. no-link (neqb→ne (f .kind) 2 u))
+      (decide (eqb (f .kind) 2))
+    where
+      no-cut : (f .kind ≡ 2 → ⊥) → (f .kind ≡ 3 → ⊥) → Advanced text s t
+      no-cut b c =
+          advance-other text s t (r .small) (r .passes) moved (λ e. no-head (found-kind ∙ e)) (λ e. b (found-kind ∙ e)) (λ e. c (found-kind ∙ e)) (p .n) (p .k)
+          (same-links b) (same-cuts c)
 
+      no-link : (f .kind ≡ 2 → ⊥) → Advanced text s t
+      no-link b =
+          ⊎-elim
+          (λ u.
+          let e = eqb→eq (f .kind) 3 u in
+          advance-cut text s t (r .small) (r .passes) moved (sym found-kind ∙ e) (p .n) (p .k) (same-links b) (more-cuts e))
+          (λ u. no-cut b (neqb→ne (f .kind) 3 u))
+          (decide (eqb (f .kind) 3))
+
+-- a head's bytes are digits
 pub head-digits : (text : List ℕ) (s : Progress) (f : Frame) → Ready text s f → f .kind ≡ 1 → (i : ℕ) → i < 5 → T (digitsAt (drop (s .at) text) i)
 head-digits text s f r e i h =
     well-digits (drop (s .at) text) (r .passes .well) i

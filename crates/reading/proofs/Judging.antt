@@ -1,28 +1,26 @@
 -- Laws of judging a line: which row refuses it, and what is left to read behind one that passed.
 -- Assumes nothing.
-use Prim.Native.Nat.{ℕ, zero, suc, _+_, _*_, _-_, _/_, _≤_, _<_}
+use Prim.Native.Nat.{ℕ, suc, _+_, _*_, _-_, _<_}
 use mathlib.Core.Path.{_≡_, refl, sym, _∙_, ap, ap₂, subst}
-use mathlib.Core.Bool.{Bool, true, false, cond, not, _&&_, _||_}
-use mathlib.Core.List.{List, [], _∷_, _++_}
+use mathlib.Core.Bool.{Bool, true, false, cond, not, _&&_}
+use mathlib.Core.List.{List, [], _∷_}
 use native.Mathlib.Nat.{add-assoc}
 use native.Mathlib.Omega.{arith}
-use borrow.Author.Tests.{eq-eqb, ne-eqb}
 use lib.Dec.{T, eqb, eqb→eq, not-T, T-not}
-use lib.ListN.{length, getD, take, drop, length-append, length-drop}
-use lib.Seq.{length-take-le, drop-drop}
+use lib.ListN.{length, getD, take, drop}
+use lib.Seq.{drop-drop}
 use Rattle.meaning.specs.declared.Judged.{Judged}
-use Rattle.meaning.specs.declared.Judged.the-variants.{Accepted, Refused}
+use Rattle.meaning.specs.declared.Judged.the-variants.{Refused}
 use Rattle.meaning.specs.Judge.{refuse, first}
-use Rattle.meaning.proofs.Tests.{both, left-of, right-of, is-true, is-false, eq→eqb, ne→neqb}
-use Rattle.cuts.specs.Record.{entrySize}
-use Rattle.reading.specs.declared.stage.Stage.{Stage}
-use Rattle.reading.specs.declared.stage.Stage.the-variants.{Opening, Linking, Cutting, Closed}
-use Rattle.reading.specs.Frame.{payloads, byteSum, bytesOf, wellFormed}
-use Rattle.reading.specs.Lines.{Line, before, linesOf, frame, kind, pair, follows, after, lineRows}
-use Rattle.reading.specs.Reader.{linkIn, entryIn, linksIn, entriesIn, bonesIn, thresholdIn}
+use Rattle.meaning.proofs.Tests.{both, left-of, right-of, holds, fails, eq→eqb, ne→neqb}
+use Rattle.stages.specs.declared.stage.Stage.{Stage}
+use Rattle.stages.specs.declared.stage.Stage.the-variants.{Opening, Linking, Cutting, Closed}
+use Rattle.frames.specs.Frame.{payloads, byteSum, bytesOf, wellFormed}
+use Rattle.stages.specs.Stages.{follows, after}
+use Rattle.reading.specs.Lines.{Line, before, linesOf, frame, kind, pair, lineRows}
 use Rattle.reading.specs.Walk.{byteAt, sizeAt, Well}
 use Rattle.reading.specs.Judging.{Passes, LineJudged, headFrom}
-use Rattle.reading.proofs.Lines.{front, front-lines, front-at, front-kind, front-length, front-well, wellFirst, well-first}
+use Rattle.reading.proofs.Lines.{front, front-lines, front-at, front-kind, front-well, wellFirst, well-first}
 
 -- a row that applies is the answer; one that does not is passed over
 pub row-applies : (b : Bool) (number place : ℕ) (js : List Judged) → T b → first (refuse b number place ∷ js) ≡ Refused number place
@@ -34,6 +32,13 @@ pub row-passes : (b : Bool) (number place : ℕ) (js : List Judged) → T (not b
 unfolding refuse first
 row-passes true number place js t = absurd t
 row-passes false number place js t = refl
+
+-- the test on a frame's kind, said of the kind at the front of a text
+pub follows-not : (stage : Stage) (k k′ : ℕ) (r : Bool) → r ≡ follows stage k → k ≡ k′ → r ≡ false → T (not (follows stage k′))
+follows-not stage k k′ r e q f = subst (λ (x : ℕ). T (not (follows stage x))) q (fails (sym e ∙ f))
+
+pub follows-yes : (stage : Stage) (k k′ : ℕ) (r : Bool) → r ≡ follows stage k → k ≡ k′ → r ≡ true → T (follows stage k′)
+follows-yes stage k k′ r e q f = subst (λ (x : ℕ). T (follows stage x)) q (holds (sym e ∙ f))
 
 -- a text that is not at its end has a line; where that is not well formed, 16
 lines-before : (c : ℕ) (ls : List Line) → 0 < length (before c ls)

@@ -1,7 +1,5 @@
--- The laws about frames and lines, and about reading them.
-pub mod Frames
+-- The laws about lines and the frames in them, and about reading them.
 pub mod Lines
-pub mod Stages
 pub mod Walks
 pub mod Judging
 pub mod ReadsText

@@ -2,21 +2,22 @@
 -- Assumes nothing.
 use Prim.Native.Nat.{ℕ, zero, suc, _+_, _*_, _-_, _≤_, _<_}
 use mathlib.Core.Path.{_≡_, refl, sym, _∙_, ap, ap₂, subst}
-use mathlib.Core.Logic.{_⊎_, inl, inr, ⊎-elim}
-use mathlib.Core.Bool.{Bool, true, false, cond, not, _&&_, _||_}
+use mathlib.Core.Logic.{_⊎_, ⊎-elim}
+use mathlib.Core.Bool.{Bool, true, false, cond, _&&_}
 use mathlib.Core.List.{List, [], _∷_, _++_}
 use native.Mathlib.Nat.{le-of-lt, add-assoc}
 use native.Mathlib.Numerals.{add-one}
 use native.Mathlib.Omega.{arith}
-use borrow.Author.Tests.{eq-eqb, ne-eqb}
+use borrow.Author.Tests.{ne-eqb}
 use lib.Dec.{T, eqb, ltb, ltb→lt, eqb→eq}
-use lib.ListN.{length, getD, take, drop, length-append, length-take}
+use lib.ListN.{length, getD, take, drop, length-append}
 use lib.Seq.{split-at, length-take-le, getD-take, getD-drop, take-append-seam, getD-append-seam}
-use Rattle.meaning.proofs.Tests.{both, left-of, right-of, decide, is-true, is-false, neqb→ne}
-use Rattle.reading.specs.Frame.{payloads, isKind, byteSum, valueOf, isHex, bytesOf, wellFormed}
-use Rattle.reading.specs.Lines.{Line, before, linesOf, frame, kind, pair}
-use Rattle.reading.specs.Walk.{pairOf, byteAt, digitsAt, sizeAt, Well}
-use Rattle.reading.proofs.Frames.{chosen, hex-first, hex-more, length-bytesOf, well-parts, well-made}
+use Rattle.meaning.proofs.Tests.{both, left-of, right-of, decide, is-true, neqb→ne}
+use Rattle.frames.specs.Frame.{payloads, valueOf, isHex, bytesOf, wellFormed}
+use Rattle.reading.specs.Lines.{Line, before, linesOf, frame, kind}
+use Rattle.frames.specs.Characters.{pairOf}
+use Rattle.reading.specs.Walk.{byteAt, digitsAt, sizeAt, Well}
+use Rattle.frames.proofs.Frames.{chosen, hex-first, length-bytesOf, well-parts, well-made}
 
 -- characters among which there is no line feed
 abbrev pub Plain : List ℕ → Type 0

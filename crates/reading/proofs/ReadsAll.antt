@@ -1,8 +1,7 @@
 -- Laws of reading a text whole: what was judged can be stored, and storing it leaves what the reader promises.
 -- Assumes nothing.
-use Prim.Native.Nat.{ℕ, zero, suc, _+_, _*_, _-_, _/_, _≤_, _<_}
-use mathlib.Core.Path.{_≡_, refl, sym, _∙_, ap, ap₂, subst}
-use mathlib.Core.Bool.{Bool, true, false, not}
+use Prim.Native.Nat.{ℕ, zero, suc, _+_, _*_, _-_, _≤_}
+use mathlib.Core.Path.{_≡_, refl, sym, _∙_, ap}
 use mathlib.Core.List.{List, [], _∷_, _++_}
 use native.Mathlib.Omega.{arith}
 use lib.Dec.{T, ltb, nltb→le}
@@ -11,13 +10,12 @@ use lib.Seq.{take-length, length-take-le}
 use Rattle.meaning.specs.declared.Link.{Link}
 use Rattle.meaning.specs.declared.Judged.{Judged}
 use Rattle.meaning.specs.declared.Judged.the-variants.{Accepted, Refused}
-use Rattle.meaning.specs.Judge.{refuse, first}
+use Rattle.meaning.specs.Judge.{first}
 use Rattle.cuts.specs.Record.{entrySize}
 use Rattle.reading.specs.declared.Reading.{Reading}
-use Rattle.reading.specs.declared.Reading.the-variants.{Got, Refused as Refused·reading}
-use Rattle.reading.specs.declared.stage.Stage.the-variants.{Opening}
-use Rattle.reading.specs.Lines.{Line, linesOf, lineRows}
-use Rattle.reading.specs.Reader.{linksIn, entriesIn, bonesIn, thresholdIn, readerRows, read, put, Reads}
+use Rattle.stages.specs.declared.stage.Stage.the-variants.{Opening}
+use Rattle.reading.specs.Lines.{linesOf, lineRows}
+use Rattle.reading.specs.Reader.{linksIn, entriesIn, readerRows, read, put, Reads}
 use Rattle.reading.specs.Judging.{allWell}
 use Rattle.reading.specs.Storing.{linksOf, cutsHeld, Storable}
 use Rattle.reading.proofs.ReadsRows.{counts, accepted-row, accepted-well, entries-whole}

@@ -1,29 +1,29 @@
 -- Laws of the reader's rows: the lines first, then the counts; and of a text that is accepted: all of its lines are well formed.
 -- Assumes nothing.
-use Prim.Native.Nat.{ℕ, zero, suc, _+_, _*_, _-_, _/_, _%_, _≤_, _<_}
-use mathlib.Core.Path.{_≡_, refl, sym, _∙_, ap, ap₂, subst}
+use Prim.Native.Nat.{ℕ, suc, _+_, _*_, _-_, _/_, _%_, _≤_, _<_}
+use mathlib.Core.Path.{_≡_, refl, sym, _∙_, ap}
 use mathlib.Core.Logic.{⊎-elim}
-use mathlib.Core.Bool.{Bool, true, false, cond, not, _&&_}
+use mathlib.Core.Bool.{Bool, true, false, not, _&&_}
 use mathlib.Core.List.{List, [], _∷_, _++_}
 use native.Mathlib.Omega.{arith}
 use borrow.Author.Tests.{le-ltb}
 use lib.Dec.{T, eqb, ltb, eqb→eq, lt→ltb}
-use lib.ListN.{length, getD, take, drop, length-append, length-drop}
+use lib.ListN.{length, getD, drop, length-append, length-drop}
 use lib.Seq.{length-take-le}
 use Rattle.meaning.specs.declared.Judged.{Judged}
 use Rattle.meaning.specs.declared.Judged.the-variants.{Accepted, Refused}
 use Rattle.meaning.specs.Judge.{refuse, first}
 use Rattle.meaning.proofs.Tests.{both, left-of, right-of, fails}
 use Rattle.cuts.specs.Record.{entrySize}
-use Rattle.reading.specs.declared.Reading.{Reading}
 use Rattle.reading.specs.declared.Reading.the-variants.{Got, Refused as Refused·reading}
-use Rattle.reading.specs.declared.stage.Stage.{Stage}
-use Rattle.reading.specs.declared.stage.Stage.the-variants.{Opening}
-use Rattle.reading.specs.Frame.{payloads, byteSum, bytesOf, wellFormed}
-use Rattle.reading.specs.Lines.{Line, linesOf, frame, kind, pair, follows, after, lineRows}
+use Rattle.stages.specs.declared.stage.Stage.{Stage}
+use Rattle.stages.specs.declared.stage.Stage.the-variants.{Opening}
+use Rattle.frames.specs.Frame.{payloads, byteSum, wellFormed}
+use Rattle.stages.specs.Stages.{follows, after}
+use Rattle.reading.specs.Lines.{Line, linesOf, frame, kind, pair, lineRows}
 use Rattle.reading.specs.Reader.{entryIn, linksIn, entriesIn, bonesIn, thresholdIn, readerRows, read}
 use Rattle.reading.specs.Judging.{allWell}
-use Rattle.reading.proofs.Frames.{chosen, well-parts}
+use Rattle.frames.proofs.Frames.{chosen, well-parts}
 use Rattle.reading.proofs.Judging.{row-applies, row-passes}
 
 -- the first refusal of two runs of rows

@@ -10,22 +10,21 @@ use native.Mathlib.Numerals.{add-one}
 use native.Mathlib.Omega.{arith}
 use borrow.Author.Tests.{eq-eqb, ne-eqb}
 use lib.Dec.{T, eqb, eqb→eq}
-use lib.ListN.{length, getD, set, take, drop, length-append, length-take, length-drop, length-set, take-append-drop, drop-of-length-le, List·getD-append}
-use lib.Seq.{length-take-le, drop-drop, drop-cons, append-snoc, set-at, ext-getD, getD-at}
-use Rattle.meaning.proofs.Tests.{both, left-of, right-of}
-use Rattle.meaning.specs.declared.Link.{Link}
+use lib.ListN.{length, getD, set, take, drop, length-append, length-drop, take-append-drop, drop-of-length-le, List·getD-append}
+use lib.Seq.{length-take-le, drop-cons, append-snoc, set-at, ext-getD, getD-at}
+use Rattle.meaning.proofs.Tests.{left-of, right-of}
 use Rattle.cuts.specs.Record.{entrySize}
-use Rattle.reading.specs.Frame.{payloads, wellFormed}
+use Rattle.frames.specs.Frame.{wellFormed}
 use Rattle.reading.specs.Lines.{Line, linesOf, kind}
 use Rattle.reading.specs.Reader.{linkIn, entryIn, linksIn, entriesIn}
 use Rattle.reading.specs.Walk.{byteAt, sizeAt, Well}
 use Rattle.reading.specs.Judging.{allWell}
-use Rattle.reading.specs.Storing.{skipTo, Skipped, payloadAt, linkAt}
-use Rattle.reading.proofs.Frames.{chosen}
+use Rattle.reading.specs.Storing.{skipTo, Skipped, payloadAt}
+use Rattle.frames.proofs.Frames.{chosen}
 use Rattle.reading.proofs.Lines.{front, front-lines, front-kind, wellFirst, well-first}
-use Rattle.reading.proofs.Walks.{size-of, well-room, size-most}
+use Rattle.reading.proofs.Walks.{well-room}
 use Rattle.reading.proofs.Judging.{rest, rest-at, lines-some}
-use Rattle.reading.proofs.ReadsText.{links-front, links-skip, link-front, entries-front, entries-skip, entry-length, entry-at}
+use Rattle.reading.proofs.ReadsText.{entry-length, entry-at}
 
 -- the first of well formed lines is a frame, and the lines behind it are well formed
 first-well : (ls : List Line) → 0 < length ls → T (allWell ls) → T (wellFirst ls)

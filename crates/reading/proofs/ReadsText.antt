@@ -1,28 +1,21 @@
 -- Laws of what a text holds: its head, links and entries, frame by frame.
 -- Assumes nothing.
-use Prim.Native.Nat.{ℕ, zero, suc, _+_, _*_, _-_, _/_, _≤_, _<_}
-use mathlib.Core.Path.{_≡_, refl, sym, _∙_, ap, ap₂, subst}
-use mathlib.Core.Bool.{Bool, true, false, cond}
-use mathlib.Core.List.{List, [], _∷_, _++_}
+use Prim.Native.Nat.{ℕ, _+_, _*_, _-_, _<_}
+use mathlib.Core.Path.{_≡_, _∙_, ap, ap₂}
+use mathlib.Core.Bool.{Bool, cond}
+use mathlib.Core.List.{List, _∷_, _++_}
 use native.Mathlib.Omega.{arith}
 use borrow.Author.Tests.{eq-eqb, ne-eqb}
-use lib.Dec.{T, eqb}
-use lib.ListN.{length, getD, take, drop, length-append, length-drop}
-use lib.Seq.{length-take-le, drop-drop, getD-take, getD-drop}
-use Rattle.meaning.specs.declared.Link.{Link}
-use Rattle.meaning.specs.declared.Judged.{Judged}
-use Rattle.meaning.specs.Judge.{first}
+use lib.Dec.{eqb}
+use lib.ListN.{length, getD, drop, length-drop}
+use lib.Seq.{length-take-le, getD-take, getD-drop}
 use Rattle.cuts.specs.Record.{entrySize}
-use Rattle.reading.specs.declared.stage.Stage.{Stage}
-use Rattle.reading.specs.declared.judge.Progress.{Progress}
-use Rattle.reading.specs.Frame.{payloads}
-use Rattle.reading.specs.Lines.{Line, linesOf, frame, kind, pair, follows, after, lineRows}
+use Rattle.reading.specs.Lines.{linesOf, frame, pair}
 use Rattle.reading.specs.Reader.{linkIn, entryIn, linksIn, entriesIn, bonesIn, thresholdIn}
 use Rattle.reading.specs.Walk.{byteAt, sizeAt, Well}
-use Rattle.reading.specs.Judging.{Passes, Small, Advanced, headFrom, answer, readFrom}
 use Rattle.reading.proofs.Lines.{front, front-lines, front-at, front-kind, front-length}
 use Rattle.reading.proofs.Walks.{size-of}
-use Rattle.reading.proofs.Judging.{rest, rows-pass, head-read, head-kept}
+use Rattle.reading.proofs.Judging.{rest}
 
 module _ (cs : List ℕ) (w : Well cs) where
   -- a number of two bytes within the frame

@@ -1,20 +1,21 @@
 -- Laws of the frame at a place of a text, as the reader finds it: its size, its sum, and the three together.
 -- Assumes nothing.
-use Prim.Native.Nat.{ℕ, zero, suc, _+_, _*_, _-_, _/_, _%_, _≤_, _<_}
+use Prim.Native.Nat.{ℕ, _+_, _*_, _-_, _/_, _%_, _≤_, _<_}
 use mathlib.Core.Path.{_≡_, refl, sym, _∙_, ap, subst}
 use mathlib.Core.Logic.{⊎-elim}
-use mathlib.Core.Bool.{Bool, true, false, cond, _&&_}
-use mathlib.Core.List.{List, [], _∷_}
+use mathlib.Core.Bool.{Bool, false, cond}
+use mathlib.Core.List.{List}
 use native.Mathlib.Nat.{add-zero, eq-or-lt-of-le}
 use native.Mathlib.Omega.{arith}
-use borrow.Author.Tests.{le-ltb, lt-ltb}
-use lib.Dec.{T, eqb, leb, ltb, leb→le, ltb→lt, eqb→eq, le→leb, lt→ltb, T-not}
+use lib.Dec.{T, eqb, ltb, lt→ltb, T-not}
 use lib.ListN.{length, getD, take, drop, length-drop}
-use lib.Seq.{getD-drop}
-use Rattle.meaning.proofs.Tests.{both, left-of, right-of, is-true, fails, eq→eqb}
-use Rattle.reading.specs.Frame.{payloads, isKind, byteSum, isHex, bytesOf}
-use Rattle.reading.specs.Walk.{pairOf, kindOf, byteAt, digitsAt, sizeAt, feedAt, Well, SizeFound, Summed, Found}
-use Rattle.reading.proofs.Frames.{chosen, pair-bound, pair-small, pair-zero, sum-snoc, sum-bound}
+use lib.Seq.{take-all}
+use Rattle.meaning.proofs.Tests.{both, is-true, fails, eq→eqb}
+use Rattle.frames.specs.Frame.{payloads, isKind, byteSum, isHex, bytesOf}
+use Rattle.frames.specs.Characters.{pairOf, kindOf, feedAt}
+use Rattle.reading.specs.Walk.{byteAt, digitsAt, sizeAt, Well, SizeFound, Summed, Found}
+use Rattle.frames.proofs.Frames.{chosen, pair-bound, sum-snoc, sum-bound}
+use Rattle.frames.proofs.Characters.{payload-most, kind-bounds, bounds-kind, feed-told}
 use Rattle.reading.proofs.Lines.{bytesOf-snoc, hex-snoc, hex-at, pair-digits-at, pair-byte-at, byteAt-bound}
 
 -- the first i pairs are digits, and the bytes that they mean have that sum
@@ -76,21 +77,6 @@ sum-done cs size i sum bad r e w z q =
 pub sum-broken : (cs : List ℕ) (size i sum bad : ℕ) → Adding cs size i sum bad → 0 < bad → Summed cs size 256
 sum-broken cs size i sum bad w h = record { none = λ n. w .broken h; digits = λ n. absurd (omega arith); sum = λ n. absurd (omega arith) }
 
--- no payload is longer than 21 bytes
-most : ℕ → List ℕ → Bool
-most m [] = true
-most m (x ∷ xs) = leb x m && most m xs
-
-at-most : (m : ℕ) (xs : List ℕ) → T (most m xs) → (i : ℕ) → getD xs i 0 ≤ m
-unfolding most
-at-most m [] t i = omega arith
-at-most m (x ∷ xs) t zero = leb→le x m (left-of (leb x m) (most m xs) t)
-at-most m (x ∷ xs) t (suc i) = at-most m xs (right-of (leb x m) (most m xs) t) i
-
-pub payload-most : (kind : ℕ) → getD payloads kind 0 ≤ 21
-unfolding most
-payload-most kind = at-most 21 payloads tt kind
-
 pub size-least : (cs : List ℕ) → 2 ≤ sizeAt cs
 unfolding sizeAt
 size-least cs = omega arith
@@ -117,15 +103,6 @@ within text at k w e i h =
     let s = size-of (drop at text) k e in
     (omega (arith, well-room text at w), well-digits (drop at text) w i (omega arith))
 
--- a kind is 1 to 7
-kind-bounds : (k : ℕ) → T (isKind k) → (1 ≤ k) × (k < 8)
-unfolding isKind
-kind-bounds k t = (leb→le 1 k (left-of (leb 1 k) (ltb k 8) t), ltb→lt k 8 (right-of (leb 1 k) (ltb k 8) t))
-
-bounds-kind : (k : ℕ) → 1 ≤ k → k < 8 → T (isKind k)
-unfolding isKind
-bounds-kind k a b = both (leb 1 k) (ltb k 8) (le→leb 1 k a) (lt→ltb k 8 b)
-
 pub no-size : (cs : List ℕ) → (Well cs → ⊥) → SizeFound cs 0
 no-size cs f =
     record {
@@ -137,22 +114,11 @@ no-size cs f =
       feed = λ h. absurd (omega arith);
     }
 
--- a line feed behind so many bytes: by its tests, and at the end of a well formed line
-pub feed-none : (cs : List ℕ) (size : ℕ) → length cs ≤ 2 * size → false ≡ feedAt cs size
-unfolding feedAt
-feed-none cs size h = rw (le-ltb (2 * size) (length cs) h) refl
+-- a line feed behind so many bytes at a place: in what is left of the text from there on
+pub feed-left : (text : List ℕ) (at size : ℕ) (r : Bool) → r ≡ feedAt (take (length text - at) (drop at text)) size → r ≡ feedAt (drop at text) size
+feed-left text at size r e = e ∙ ap (λ (l : List ℕ). feedAt l size) (take-all (length text - at) (drop at text) (omega (arith, length-drop at text)))
 
-pub feed-some : (text : List ℕ) (at size : ℕ) → 2 * size < length (drop at text) → eqb (getD text (at + 2 * size) 0) 10 ≡ feedAt (drop at text) size
-unfolding feedAt
-feed-some text at size h = rw (lt-ltb (2 * size) (length (drop at text)) h, getD-drop at text (2 * size) 0) refl
-
-feed-told : (cs : List ℕ) (size : ℕ) → T (feedAt cs size) → (2 * size < length cs) × (getD cs (2 * size) 0 ≡ 10)
-unfolding feedAt
-feed-told cs size t =
-    let room = ltb (2 * size) (length cs) in
-    let feed = eqb (getD cs (2 * size) 0) 10 in
-    (ltb→lt (2 * size) (length cs) (left-of room feed t), eqb→eq (getD cs (2 * size) 0) 10 (right-of room feed t))
-
+-- a line feed stands at the end of a well formed line
 well-feed : (cs : List ℕ) (size : ℕ) → Well cs → size ≡ sizeAt cs → T (feedAt cs size)
 unfolding feedAt
 well-feed cs size w e =
@@ -162,27 +128,6 @@ well-feed cs size w e =
 
 pub no-feed : (cs : List ℕ) (size : ℕ) (r : Bool) → (Well cs → size ≡ sizeAt cs) → r ≡ feedAt cs size → r ≡ false → SizeFound cs 0
 no-feed cs size r s e f = no-size cs (λ w. T-not (feedAt cs size) (fails (sym e ∙ f)) (well-feed cs size w (s w)))
-
--- the kind that two characters mean
-pub kind-low : (d : ℕ) → 48 ≤ d → d < 56 → kindOf 48 d ≡ d - 48
-unfolding kindOf
-kind-low d a b =
-    let e = pair-zero d a (omega arith) in
-    let n : 0 ≤ d - 48 = omega arith in
-    ⊎-elim (λ w. w .1 ∙ e)
-    (λ w. w .1 ∙ ⊎-elim (λ z. z) (λ h. absurd (T-not (isKind (pairOf 48 d)) (w .0) (bounds-kind (pairOf 48 d) (omega arith) (omega arith)))) (eq-or-lt-of-le n))
-    (chosen (isKind (pairOf 48 d)) (pairOf 48 d) 0)
-
-pub kind-none : (c d : ℕ) → (c ≡ 48 → 48 ≤ d → d < 56 → ⊥) → kindOf c d ≡ 0
-unfolding kindOf
-kind-none c d f =
-    ⊎-elim
-    (λ w.
-    let b = kind-bounds (pairOf c d) (w .0) in
-    let p = pair-small c d (omega (arith, b .1)) in
-    absurd (f (p .0) (p .1) (omega (arith, b .1, p .2))))
-    (λ w. w .1)
-    (chosen (isKind (pairOf c d)) (pairOf c d) 0)
 
 -- the kind of the frame at a place
 module _ (text : List ℕ) (at kind : ℕ) (e : kind ≡ kindOf (getD text at 0) (getD text (at + 1) 0)) where

@@ -12,11 +12,12 @@ use Rattle.cuts.specs.Record.{entrySize}
 use Rattle.reading.specs.declared.Reading.{Reading}
 use Rattle.reading.specs.declared.Reading.the-variants.{Got, Refused as Refused·reading}
 use Rattle.reading.specs.declared.frame.Frame.{Frame}
-use Rattle.reading.specs.declared.stage.Stage.{Stage}
-use Rattle.reading.specs.declared.stage.Stage.the-variants.{Opening, Linking, Cutting, Closed}
-use Rattle.reading.specs.declared.judge.Progress.{Progress}
-use Rattle.reading.specs.Frame.{byteSum, bytesOf, wellFormed}
-use Rattle.reading.specs.Lines.{Line, linesOf, follows, lineRows}
+use Rattle.stages.specs.declared.stage.Stage.{Stage}
+use Rattle.stages.specs.declared.stage.Stage.the-variants.{Opening, Linking, Cutting, Closed}
+use Rattle.stages.specs.declared.progress.Progress.{Progress}
+use Rattle.frames.specs.Frame.{byteSum, bytesOf, wellFormed}
+use Rattle.stages.specs.Stages.{follows}
+use Rattle.reading.specs.Lines.{Line, linesOf, lineRows}
 use Rattle.reading.specs.Reader.{linksIn, entriesIn, bonesIn, thresholdIn}
 use Rattle.reading.specs.Walk.{byteAt, sizeAt, Well, Found}
 
@@ -62,16 +63,6 @@ pub record Ready (text : List ℕ) (s : Progress) (f : Frame) : Type 0 where
   pub some : 0 < f .size
   pub found : Found (drop (s .at) text) f
   pub passes : Passes (drop (s .at) text) (s .stage) (s .line)
-
--- at a place, a line and a stage, with what was read before
-pub record Stands (s s′ : Progress) (at line′ : ℕ) (stage′ : Stage) : Type 0 where
-  pub place : s′ .at ≡ at
-  pub line : s′ .line ≡ line′
-  pub stage : s′ .stage ≡ stage′
-  pub n : s′ .n ≡ s .n
-  pub k : s′ .k ≡ s .k
-  pub links : s′ .links ≡ s .links
-  pub cuts : s′ .cuts ≡ s .cuts
 
 pub record Advanced (text : List ℕ) (s s′ : Progress) : Type 0 where
   pub small : Small text s′

@@ -1,5 +1,4 @@
 -- What the reader's promises cite.
-pub mod Frame
 pub mod Lines
 pub mod Reader
 pub mod Walk

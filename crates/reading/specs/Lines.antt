@@ -1,14 +1,14 @@
 -- A text as lines, and the rows 16 to 19 that are tried on each line in turn.
 use Prim.Native.Nat.{ℕ, suc, _+_, _*_}
-use mathlib.Core.Bool.{Bool, true, false, cond, not, _&&_, _||_}
-use mathlib.Core.List.{List, [], _∷_, _++_}
+use mathlib.Core.Bool.{Bool, true, false, cond, not, _&&_}
+use mathlib.Core.List.{List, [], _∷_}
 use lib.Dec.{eqb}
 use lib.ListN.{getD}
 use Rattle.meaning.specs.declared.Judged.{Judged}
 use Rattle.meaning.specs.Judge.{refuse}
-use Rattle.reading.specs.declared.stage.Stage.{Stage}
-use Rattle.reading.specs.declared.stage.Stage.the-variants.{Opening, Linking, Cutting, Closed}
-use Rattle.reading.specs.Frame.{byteSum, bytesOf, wellFormed}
+use Rattle.stages.specs.declared.stage.Stage.{Stage}
+use Rattle.stages.specs.Stages.{follows, after, open-at}
+use Rattle.frames.specs.Frame.{byteSum, bytesOf, wellFormed}
 
 -- a line: its characters, and whether a line feed ended it
 pub record Line : Type 0 where
@@ -34,26 +34,6 @@ kind l = getD (frame l) 0 0
 
 unfoldable pub pair : Line → ℕ → ℕ
 pair l i = getD (frame l) i 0 * 256 + getD (frame l) (suc i) 0
-
--- whether a frame of that kind may stand there: head; links and notes; cuts and notes; close; nothing after
-unfoldable pub follows : Stage → ℕ → Bool
-follows Opening kind = eqb kind 1
-follows Linking kind = (eqb kind 2 || eqb kind 3) || (eqb kind 5 || eqb kind 6)
-follows Cutting kind = eqb kind 3 || (eqb kind 5 || eqb kind 6)
-follows Closed kind = false
-
--- and how far the text has come after it
-unfoldable pub after : Stage → ℕ → Stage
-after Opening kind = Linking
-after Linking kind = cond (eqb kind 6) Closed (cond (eqb kind 3) Cutting Linking)
-after Cutting kind = cond (eqb kind 6) Closed Cutting
-after Closed kind = Closed
-
-unfoldable pub open-at : Stage → Bool
-open-at Opening = true
-open-at Linking = true
-open-at Cutting = true
-open-at Closed = false
 
 -- 16 to 19 on each line in turn, from line i on; a missing close is refused at the line after the last
 unfoldable pub lineRows : Stage → ℕ → List Line → List Judged

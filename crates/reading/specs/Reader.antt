@@ -1,7 +1,7 @@
 -- What the reader gives: the head's numbers, the links and the cuts of a text.
 use Prim.Native.Nat.{ℕ, _+_, _*_, _/_}
 use mathlib.Core.Path.{_≡_}
-use mathlib.Core.Bool.{Bool, cond}
+use mathlib.Core.Bool.{cond}
 use mathlib.Core.List.{List, [], _∷_, _++_}
 use lib.Dec.{eqb, ltb}
 use lib.ListN.{length, getD, take, drop}
@@ -12,7 +12,7 @@ use Rattle.meaning.specs.Judge.{refuse, first}
 use Rattle.cuts.specs.Record.{entrySize}
 use Rattle.reading.specs.declared.Reading.{Reading}
 use Rattle.reading.specs.declared.Reading.the-variants.{Got, Refused as Refused·reading}
-use Rattle.reading.specs.declared.stage.Stage.the-variants.{Opening}
+use Rattle.stages.specs.declared.stage.Stage.the-variants.{Opening}
 use Rattle.reading.specs.Lines.{Line, linesOf, frame, kind, pair, lineRows}
 
 -- the link of a frame 02; the entry of a frame 03

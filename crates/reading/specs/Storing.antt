@@ -4,14 +4,13 @@ use mathlib.Core.Path.{_≡_}
 use mathlib.Core.Bool.{cond}
 use mathlib.Core.List.{List, [], _∷_, _++_}
 use lib.Dec.{T, eqb}
-use lib.ListN.{length, take, drop}
+use lib.ListN.{length, drop}
 use Rattle.meaning.specs.declared.Link.{Link}
-use Rattle.cuts.specs.Record.{entrySize}
 use Rattle.reading.specs.declared.Reading.{Reading}
 use Rattle.reading.specs.declared.Reading.the-variants.{Got, Refused}
 use Rattle.reading.specs.Lines.{Line, linesOf, kind}
-use Rattle.reading.specs.Reader.{linksIn, entriesIn}
-use Rattle.reading.specs.Walk.{byteAt, sizeAt, Well}
+use Rattle.reading.specs.Reader.{linksIn}
+use Rattle.reading.specs.Walk.{byteAt}
 use Rattle.reading.specs.Judging.{allWell}
 
 -- the lines from the first one of that kind on

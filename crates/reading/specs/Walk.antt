@@ -2,19 +2,11 @@
 use Prim.Native.Nat.{ℕ, _+_, _*_, _≤_, _<_}
 use mathlib.Core.Path.{_≡_}
 use mathlib.Core.List.{List}
-use mathlib.Core.Bool.{Bool, cond, _&&_}
-use lib.Dec.{T, eqb, ltb}
+use mathlib.Core.Bool.{Bool, _&&_}
+use lib.Dec.{T, ltb}
 use lib.ListN.{length, getD, take}
 use Rattle.reading.specs.declared.frame.Frame.{Frame}
-use Rattle.reading.specs.Frame.{payloads, isKind, byteSum, valueOf, isHex, bytesOf}
-
--- the byte that two characters mean, 256 where they are not both digits
-unfoldable pub pairOf : ℕ → ℕ → ℕ
-pairOf c d = cond (ltb (valueOf c) 16 && ltb (valueOf d) 16) (valueOf c * 16 + valueOf d) 256
-
--- the kind that they mean, nought where there is no such kind
-unfoldable pub kindOf : ℕ → ℕ → ℕ
-kindOf c d = cond (isKind (pairOf c d)) (pairOf c d) 0
+use Rattle.frames.specs.Frame.{payloads, isKind, byteSum, valueOf, isHex, bytesOf}
 
 -- the byte that the i-th pair of characters means
 unfoldable pub byteAt : List ℕ → ℕ → ℕ
@@ -34,10 +26,6 @@ pub record Well (cs : List ℕ) : Type 0 where
   pub digits : T (isHex (take (2 * sizeAt cs) cs))
   pub room : 2 * sizeAt cs < length cs
   pub feed : getD cs (2 * sizeAt cs) 0 ≡ 10
-
--- whether a line feed stands behind so many bytes
-unfoldable pub feedAt : List ℕ → ℕ → Bool
-feedAt cs size = ltb (2 * size) (length cs) && eqb (getD cs (2 * size) 0) 10
 
 -- how many bytes the frame at the front has, where there is such a kind, room for its line, and a line feed at its end; else nought
 pub record SizeFound (cs : List ℕ) (r : ℕ) : Type 0 where

@@ -1,87 +1,22 @@
-// Frames: how many payload bytes a kind has, digits and the byte that a pair of them means, and the sum of a frame's bytes.
+// The frame at a place of a text: its size, its kind, the sum of its bytes, and the bytes by themselves.
 ghost use mathlib.Core.Path.{_≡_};
-ghost use Prim.Native.Nat.{_+_, _*_, _%_, _≤_, _<_};
+ghost use Prim.Native.Nat.{_+_, _*_, _≤_, _<_};
 ghost use lib.Dec.{T};
-ghost use lib.ListN.{getD, length, drop};
-ghost use Rattle.reading.specs.Frame.{payloads, valueOf};
-ghost use Rattle.reading.specs.Walk.{pairOf, kindOf, byteAt, digitsAt, feedAt, Well, Found, SizeFound, Summed};
+ghost use lib.ListN.{length, drop};
+ghost use Rattle.reading.specs.Walk.{byteAt, digitsAt, Well, Found, SizeFound, Summed};
+use frames::digits::kind_of;
+use frames::digits::pair;
+use frames::digits::value;
+use frames::digits::wide;
+use frames::frame::add_byte;
+use frames::frame::feed_at;
+use frames::frame::payload;
 
 // The frame at a place of a text: how many bytes it has, its kind and the sum of its bytes. No well formed line there: the size is nought.
 pub(crate) struct Frame {
     pub size: usize,
     pub kind: usize,
     pub sum: usize,
-}
-
-// The payload's length by kind; there is no kind 00.
-const PAYLOADS: [u8; 8] = [0, 3, 4, 21, 2, 16, 2, 3];
-
-// The length of a kind's payload, nought where there is no such kind. Most frames are links: where the next line starts is then known without
-// waiting for the table.
-pub(crate) fn payload(kind: usize) -> usize
-    ensures { λ r. ⌜ r ≡ getD payloads kind 0 ⌝ }
-{
-    if kind == 2 {
-        return wide(PAYLOADS[2]);
-    }
-    if kind < 8 { wide(PAYLOADS[kind]) } else { 0 }
-}
-
-// The digit that a character is, 16 where it is none. What is below a digit wraps round to a great number, so each run of digits is one test.
-pub(crate) fn value(c: u8) -> u8
-    ensures { λ r. ⌜ r ≡ valueOf c ⌝ }
-{
-    let low = std::num::wrapping_sub_u8(c, 48);
-    let high = std::num::wrapping_sub_u8(c, 97);
-    if low < 10 {
-        return low;
-    }
-    if high < 6 {
-        return high + 10;
-    }
-    16
-}
-
-// The byte that two characters mean, 256 where they are not both digits.
-pub(crate) fn pair(high: u8, low: u8) -> usize
-    ensures { λ r. ⌜ r ≡ pairOf high low ⌝ }
-{
-    let h = value(high);
-    let l = value(low);
-    if h < 16 {
-        if l < 16 {
-            return wide(h) * 16 + wide(l);
-        }
-    }
-    256
-}
-
-// The kind that the first two characters of a line mean, nought where there is no such kind. Every kind has a 0 in front.
-fn kind_of(high: u8, low: u8) -> usize
-    ensures { λ r. ⌜ r ≡ kindOf high low ⌝ }
-{
-    let kind = std::num::wrapping_sub_u8(low, 48);
-    if high != 48 {
-        return 0;
-    }
-    if kind < 8 { wide(kind) } else { 0 }
-}
-
-fn wide(x: u8) -> usize
-    ensures { λ r. ⌜ r ≡ x ⌝ }
-{
-    x as usize
-}
-
-// Whether a line feed stands behind so many bytes at a place.
-fn feed_at(text: &[u8], at: usize, size: usize) -> bool
-    requires { ⌜ (at ≤ length (now text)) × (size ≤ 23) ⌝ }
-    ensures { λ r. ⌜ r ≡ feedAt (drop at (now (text .entry))) size ⌝ }
-{
-    if text.len() - at <= 2 * size {
-        return false;
-    }
-    text[at + 2 * size] == 10
 }
 
 // How many bytes the frame at a place has, where there is such a kind, and a line feed at the end of its line; else nought.
@@ -97,7 +32,7 @@ fn size_at(text: &[u8], at: usize) -> usize
         return 0;
     }
     let size = payload(kind) + 2;
-    if feed_at(text, at, size) { size } else { 0 }
+    if feed_at(&text[at..], size) { size } else { 0 }
 }
 
 // The kind of the frame at a place.
@@ -106,13 +41,6 @@ pub(crate) fn kind_at(text: &[u8], at: usize) -> usize
     ensures { λ r. ⌜ r ≡ byteAt (drop at (now (text .entry))) 0 ⌝ }
 {
     kind_of(text[at], text[at + 1])
-}
-
-// A byte added to a sum of bytes, with the carry thrown away.
-fn add_byte(sum: u8, byte: u8) -> u8
-    ensures { λ r. ⌜ r ≡ (sum + byte) % 256 ⌝ }
-{
-    std::num::wrapping_add_u8(sum, byte)
 }
 
 // The sum of the bytes at a place, added as bytes with the carry thrown away; 256 where they are not all written in digits. Every byte is looked at,

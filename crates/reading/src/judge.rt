@@ -3,26 +3,16 @@ ghost use mathlib.Core.Path.{_≡_};
 ghost use Prim.Native.Nat.{_<_, _≤_};
 ghost use lib.ListN.{length, drop};
 ghost use Rattle.meaning.specs.Judge.{first};
-ghost use Rattle.reading.specs.declared.stage.Stage.the-variants.{Opening};
+ghost use Rattle.stages.specs.declared.stage.Stage.the-variants.{Opening};
 ghost use Rattle.reading.specs.Lines.{linesOf, lineRows};
 ghost use Rattle.reading.specs.Reader.{read, readerRows};
 ghost use Rattle.reading.specs.Walk.{Found};
-ghost use Rattle.reading.specs.Judging.{LineJudged, Stands, Ready, Advanced};
+ghost use Rattle.reading.specs.Judging.{LineJudged, Ready, Advanced};
 use crate::Reading;
 use crate::frame::Frame;
-use crate::stage::Stage;
 use cuts::record::Record;
-
-// How far judging has come: the place in the text, the line, the stage, the head's numbers, and the links and cuts so far.
-pub(crate) struct Progress {
-    pub(crate) at: usize,
-    pub(crate) line: u32,
-    pub(crate) stage: Stage,
-    pub(crate) n: u8,
-    pub(crate) k: u16,
-    pub(crate) links: u32,
-    pub(crate) cuts: u32,
-}
+use stages::progress::Progress;
+use stages::stage::Stage;
 
 // The first of the rows 16 to 19 that refuses the line at a place, or nought.
 fn line_row(text: &[u8], at: usize, f: Frame, stage: Stage, line: u32) -> u32
@@ -36,7 +26,7 @@ fn line_row(text: &[u8], at: usize, f: Frame, stage: Stage, line: u32) -> u32
         return 17;
     }
     let kind = f.kind;
-    if !crate::stage::may_follow(stage, kind) {
+    if !stages::stage::may_follow(stage, kind) {
         return 18;
     }
     if kind == 6 {
@@ -47,51 +37,19 @@ fn line_row(text: &[u8], at: usize, f: Frame, stage: Stage, line: u32) -> u32
     0
 }
 
-// Behind a frame: the place, the line and the stage there. What was read stays.
-fn move_to(s: Progress, at: usize, line: u32, stage: Stage) -> Progress
-    ensures { λ r. ⌜ Stands s r at line stage ⌝ }
-{
-    Progress {
-        at: at,
-        line: line,
-        stage: stage,
-        n: s.n,
-        k: s.k,
-        links: s.links,
-        cuts: s.cuts,
-    }
-}
-
-// What is known behind a line that passed, by its kind: a head's numbers, one link or one cut more. Every frame counts as a line, notes too; and what
-// stands behind the close is still to be tried.
+// What is known behind a line that passed: one step further, and a head's numbers.
 fn advance(text: &[u8], s: Progress, f: Frame) -> Progress
     requires { ⌜ Ready (now text) s f ⌝ }
     ensures { λ r. ⌜ Advanced (now (text .entry)) s r ⌝ }
 {
     let kind = f.kind;
-    let next = s.at + 2 * f.size + 1;
-    let line = s.line + 1;
+    let mut next = stages::progress::step(s, kind, f.size);
     if kind == 1 {
-        let mut head = move_to(s, next, line, Stage::Linking);
-        head.n = crate::frame::byte_at(text, s.at, 1);
-        head.k = crate::frame::number_at(text, s.at, 2);
-        return head;
+        next.n = crate::frame::byte_at(text, s.at, 1);
+        next.k = crate::frame::number_at(text, s.at, 2);
+        return next;
     }
-    if kind == 2 {
-        let mut link = move_to(s, next, line, Stage::Linking);
-        link.links = s.links + 1;
-        return link;
-    }
-    if kind == 3 {
-        let mut cut = move_to(s, next, line, Stage::Cutting);
-        cut.cuts = s.cuts + 1;
-        return cut;
-    }
-    if kind == 5 {
-        let stage = s.stage;
-        return move_to(s, next, line, stage);
-    }
-    move_to(s, next, line, Stage::Closed)
+    next
 }
 
 // Rows 16 to 19 on each line in turn, and what the text holds.
@@ -121,7 +79,7 @@ fn judge_lines(text: &[u8]) -> Reading
         s = advance(text, s, f);
     }
     let stage = s.stage;
-    if crate::stage::is_open(stage) {
+    if stages::stage::is_open(stage) {
         return Reading::Refused {
             number: 18,
             place: s.line,

@@ -1,8 +1,7 @@
-// Reading: frames in lines of hexadecimal, and the reader.
+// Reading: the frames of a text found and judged, and the reader.
 mod frame;
 mod judge;
 pub mod reader;
-pub mod stage;
 mod store;
 
 // What the reader answers: a refusal of the table with its place, or the head's two numbers and how many links and cuts were read.

@@ -15,8 +15,8 @@ use crate::Reading;
 use crate::frame::byte_at;
 use crate::frame::kind_at;
 use crate::frame::number_at;
-use crate::frame::payload;
 use cuts::record::Record;
+use frames::frame::payload;
 use meaning::Link;
 
 // The place behind the frame at a place.

@@ -25,7 +25,7 @@ use Rattle.pairs.specs.Side.{sideOf}
 use Rattle.cuts.specs.Record.{entrySize, cutsIn, cutsOf}
 use Rattle.cuts.proofs.Narrow.{Narrow, Narrows, narrow-cuts}
 use Rattle.replay.specs.Rows.{astray, entryRows, entriesRows, recordRow, recordRows}
-use Rattle.pairs.proofs.LinksRows.{never-both, first-accepted, first-refused, accepted-left, accepted-right}
+use Rattle.links.proofs.LinksRows.{never-both, first-accepted, first-refused, accepted-left, accepted-right}
 
 -- a pile that stands has the name of a bone
 pub stands-bone : (n : ℕ) (h : Heap) (name : ℕ) → stands n h name ≡ true → name < n

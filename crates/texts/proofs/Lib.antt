@@ -1,14 +1,7 @@
--- The laws about writing lines and texts, and the theorems about texts.
-pub mod Writes
-pub mod WritesLines
+-- The laws about writing a result text, and the theorems about texts.
 pub mod WritesTexts
 pub mod WritesRows
 pub mod WritesResult
-pub mod WritesLinks
-pub mod WritesRecord
-pub mod WritesLent
-pub mod WritesAnswer
-pub mod WritesInput
 pub mod RoundTripLines
 pub mod RoundTripWritten
 pub mod RoundTripRead

@@ -14,23 +14,26 @@ use Rattle.meaning.specs.declared.Judged.{Judged}
 use Rattle.meaning.specs.declared.Judged.the-variants.{Accepted, Refused}
 use Rattle.meaning.specs.Judge.{refuse, first}
 use Rattle.meaning.proofs.Tests.{fails, decide, taut, so, _⊃_}
-use Rattle.pairs.specs.Links.{countRows, linksRows, tableRows}
-use Rattle.pairs.proofs.LinksRows.{first-accepted, accepted-left, accepted-right, Counted, counts-accepted}
+use Rattle.links.specs.Links.{countRows, linksRows, tableRows}
+use Rattle.links.proofs.LinksRows.{first-accepted, accepted-left, accepted-right, Counted, counts-accepted}
 use Rattle.cuts.specs.Record.{entrySize}
 use Rattle.replay.specs.Rows.{recordRow}
 use Rattle.reading.specs.declared.Reading.{Reading}
 use Rattle.reading.specs.declared.Reading.the-variants.{Got}
-use Rattle.texts.specs.declared.Written.{Written}
-use Rattle.texts.specs.declared.Written.the-variants.{Bytes as Wrote}
-use Rattle.reading.specs.declared.stage.Stage.the-variants.{Opening}
+use Rattle.lines.specs.declared.Written.{Written}
+use Rattle.lines.specs.declared.Written.the-variants.{Bytes as Wrote}
+use Rattle.stages.specs.declared.stage.Stage.the-variants.{Opening}
 use Rattle.reading.specs.Lines.{Line, linesOf, lineRows}
 use Rattle.reading.specs.Reader.{linksIn, entriesIn, bonesIn, thresholdIn, readerRows, read, put, Reads}
-use Rattle.texts.specs.Writers.{inputText, inputRows, unnoted, wrote, Writes}
-use Rattle.reading.proofs.Frames.{Bytes}
-use Rattle.texts.proofs.WritesTexts.{length-input}
+use Rattle.lines.specs.Writing.{wrote, Writes}
+use Rattle.inputs.specs.Inputs.{inputText, inputRows}
+use Rattle.texts.specs.Writers.{unnoted}
+use Rattle.frames.proofs.Frames.{Bytes}
+use Rattle.inputs.proofs.WritesRows.{row-accepted}
+use Rattle.inputs.proofs.WritesLinks.{length-input}
 use Rattle.texts.proofs.RoundTripLines.{passes}
 use Rattle.texts.proofs.RoundTripWritten.{Smalls, Written as Fits, rows-passed, bones-back, threshold-back, links-back, entries-back}
-use Rattle.texts.proofs.RoundTripRead.{row-accepted, entries-whole, text-back}
+use Rattle.texts.proofs.RoundTripRead.{entries-whole, text-back}
 
 -- a number that is not over a bound passes the row that refuses those over it
 within : (a b : ℕ) → b ≤ a → T (not (ltb a b))

@@ -11,10 +11,11 @@ use Rattle.meaning.specs.declared.Judged.{Judged}
 use Rattle.meaning.specs.declared.Judged.the-variants.{Accepted, Refused}
 use Rattle.meaning.specs.Judge.{refuse, first}
 use Rattle.meaning.proofs.Tests.{is-true, is-false, eq→eqb}
-use Rattle.reading.specs.Frame.{payloads, isKind, byteSum, hex, line, wellFormed}
-use Rattle.reading.specs.declared.stage.Stage.{Stage}
-use Rattle.reading.specs.Lines.{Line, linesOf, frame, kind, pair, follows, after, lineRows}
-use Rattle.reading.proofs.Frames.{Bytes, whole, whole-bytes, whole-sum, line-means, line-well, isHex-hex}
+use Rattle.frames.specs.Frame.{payloads, isKind, byteSum, hex, line, wellFormed}
+use Rattle.stages.specs.declared.stage.Stage.{Stage}
+use Rattle.stages.specs.Stages.{follows, after}
+use Rattle.reading.specs.Lines.{Line, linesOf, frame, kind, pair, lineRows}
+use Rattle.frames.proofs.Frames.{Bytes, whole, whole-bytes, whole-sum, line-means, line-well, isHex-hex}
 use Rattle.reading.proofs.Lines.{lines-ended, plain-digits}
 
 -- the line that a frame is written as

@@ -15,13 +15,17 @@ use Rattle.meaning.specs.declared.Judged.the-variants.{Accepted, Refused}
 use Rattle.meaning.specs.Judge.{refuse, first}
 use Rattle.meaning.proofs.Tests.{left-of, right-of, either, eq→eqb, neqb→ne, is-true, is-false, decide, taut, so, _⊃_}
 use Rattle.cuts.specs.Record.{entrySize}
-use Rattle.reading.specs.Frame.{payloads, byteSum, line, wellFormed}
-use Rattle.reading.specs.declared.stage.Stage.{Stage}
-use Rattle.reading.specs.declared.stage.Stage.the-variants.{Opening, Linking, Cutting, Closed}
-use Rattle.reading.specs.Lines.{Line, before, linesOf, frame, kind, pair, follows, after, open-at, lineRows}
+use Rattle.frames.specs.Frame.{payloads, byteSum, line, wellFormed}
+use Rattle.stages.specs.declared.stage.Stage.{Stage}
+use Rattle.stages.specs.declared.stage.Stage.the-variants.{Opening, Linking, Cutting, Closed}
+use Rattle.reading.specs.Lines.{Line, before, linesOf, frame, kind, pair, lineRows}
+use Rattle.stages.specs.Stages.{follows, after, open-at}
 use Rattle.reading.specs.Reader.{linkIn, linksIn, entryIn, entriesIn, bonesIn, thresholdIn}
-use Rattle.texts.specs.Writers.{two, headLine, linkLine, linkLines, cutLines, closeLine, inputText, unnoted}
-use Rattle.reading.proofs.Frames.{Bytes, bytes-bytesOf, well-parts, line-only}
+use Rattle.lines.specs.Kinds.{two, headLine, linkLine, linkLines, cutLines, closeLine}
+use Rattle.inputs.specs.Inputs.{inputText}
+use Rattle.texts.specs.Writers.{unnoted}
+use Rattle.frames.proofs.Frames.{Bytes, bytes-bytesOf, well-parts, line-only}
+use Rattle.inputs.proofs.WritesRows.{row-accepted}
 
 -- a text is its lines, one behind the other
 pub joined : List Line → List ℕ
@@ -42,12 +46,6 @@ joined-lines (c ∷ cs) = feed c cs (eqb c 10) refl (joined-lines cs)
         → joined (cond b (record { characters = []; ended = true } ∷ linesOf cs) (before c (linesOf cs))) ≡ c ∷ cs
     feed c cs true e h = ap₂ _∷_ (sym (eqb→eq c 10 (subst T (sym e) tt))) h
     feed c cs false e h = joined-before c (linesOf cs) ∙ ap (λ (l : List ℕ). c ∷ l) h
-
--- a row that accepts
-pub row-accepted : (b : Bool) (number place : ℕ) (js : List Judged) → first (refuse b number place ∷ js) ≡ Accepted → T (not b) × (first js ≡ Accepted)
-unfolding refuse first
-row-accepted true number place js e = let z : _≡_ {A = ℕ} 0 1 = cc in absurd (omega arith)
-row-accepted false number place js e = (tt, e)
 
 shown : (b : Bool) → T (not (not b)) → T b
 shown true t = tt

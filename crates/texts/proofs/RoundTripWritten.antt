@@ -13,13 +13,15 @@ use Rattle.meaning.specs.declared.Judged.the-variants.{Accepted}
 use Rattle.meaning.specs.Judge.{refuse, first}
 use Rattle.meaning.proofs.Tests.{eq→eqb}
 use Rattle.cuts.specs.Record.{entrySize}
-use Rattle.reading.specs.Frame.{isKind, line}
-use Rattle.reading.specs.declared.stage.Stage.{Stage}
-use Rattle.reading.specs.declared.stage.Stage.the-variants.{Opening, Linking, Cutting, Closed}
-use Rattle.reading.specs.Lines.{Line, linesOf, frame, kind, pair, follows, after, open-at, lineRows}
+use Rattle.frames.specs.Frame.{isKind, line}
+use Rattle.stages.specs.declared.stage.Stage.{Stage}
+use Rattle.stages.specs.declared.stage.Stage.the-variants.{Opening, Linking, Cutting, Closed}
+use Rattle.reading.specs.Lines.{Line, linesOf, frame, kind, pair, lineRows}
+use Rattle.stages.specs.Stages.{follows, after, open-at}
 use Rattle.reading.specs.Reader.{linkIn, linksIn, entryIn, entriesIn, bonesIn, thresholdIn}
-use Rattle.texts.specs.Writers.{two, headLine, linkLine, linkLines, cutLines, closeLine, inputText}
-use Rattle.reading.proofs.Frames.{Bytes, whole}
+use Rattle.lines.specs.Kinds.{two, headLine, linkLine, linkLines, cutLines, closeLine}
+use Rattle.inputs.specs.Inputs.{inputText}
+use Rattle.frames.proofs.Frames.{Bytes, whole}
 use Rattle.texts.proofs.RoundTripLines.{lineOf, first-line, frame-is, kind-is, pair-is, row-passed, not-not}
 
 -- runs of bytes

@@ -13,13 +13,16 @@ use Rattle.meaning.specs.Judge.{first}
 use Rattle.cuts.specs.Record.{entrySize}
 use Rattle.reading.specs.declared.Reading.{Reading}
 use Rattle.reading.specs.declared.Reading.the-variants.{Got}
-use Rattle.texts.specs.declared.Written.{Written}
-use Rattle.texts.specs.declared.Written.the-variants.{Bytes as Wrote}
+use Rattle.lines.specs.declared.Written.{Written}
+use Rattle.lines.specs.declared.Written.the-variants.{Bytes as Wrote}
 use Rattle.reading.specs.Lines.{linesOf, lineRows}
 use Rattle.reading.specs.Reader.{linksIn, entriesIn, bonesIn, thresholdIn, readerRows, Reads}
-use Rattle.texts.specs.Writers.{inputText, resultText, inputRows, unnoted, Writes}
-use Rattle.reading.proofs.Frames.{Bytes}
-use Rattle.texts.proofs.WritesTexts.{length-input, length-result}
+use Rattle.lines.specs.Writing.{Writes}
+use Rattle.inputs.specs.Inputs.{inputText, inputRows}
+use Rattle.texts.specs.Writers.{resultText, unnoted}
+use Rattle.frames.proofs.Frames.{Bytes}
+use Rattle.inputs.proofs.WritesLinks.{length-input}
+use Rattle.texts.proofs.WritesTexts.{length-result}
 use Rattle.texts.proofs.RoundTripWritten.{Smalls}
 use Rattle.texts.proofs.RoundTripRead.{text-back}
 use Rattle.texts.proofs.RoundTripCalls.{lines-accepted, write-read, read-write}

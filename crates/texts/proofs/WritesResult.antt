@@ -13,19 +13,20 @@ use Rattle.meaning.specs.declared.Judged.the-variants.{Accepted, Refused}
 use Rattle.meaning.specs.Judge.{refuse, first}
 use Rattle.meaning.specs.Tally.{Tally, pairTally}
 use Rattle.meaning.specs.Heap.{Heap, start, left}
-use Rattle.pairs.specs.Links.{tableRows}
+use Rattle.links.specs.Links.{tableRows}
 use Rattle.placed.specs.Records.{firstOf}
 use Rattle.pairs.specs.Table.{held, filled}
-use Rattle.pairs.proofs.LinksBytes.{Short}
+use Rattle.links.proofs.LinksBytes.{Short}
 use Rattle.heaps.specs.Names.{settled, names as namesOf}
 use Rattle.cuts.specs.Record.{cutsOf}
 use Rattle.replay.specs.Rows.{recordRows}
 use Rattle.replay.proofs.Lawful.{few-rows}
 use Rattle.heaps.proofs.Parting.{judged-names}
 use Rattle.cutting.proofs.Carried.{rows-alike, filled-alike}
-use Rattle.cutting.proofs.Continuing.{record-sound}
-use Rattle.texts.specs.declared.Written.{Written}
-use Rattle.texts.specs.Writers.{resultText, resultRows, Writes}
+use Rattle.runs.proofs.Continuing.{record-sound}
+use Rattle.lines.specs.declared.Written.{Written}
+use Rattle.lines.specs.Writing.{Writes}
+use Rattle.texts.specs.Writers.{resultText, resultRows}
 use Rattle.texts.specs.Writing.{Named}
 use Rattle.texts.proofs.WritesRows.{result-rows}
 

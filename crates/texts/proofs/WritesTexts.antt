@@ -1,36 +1,20 @@
--- Whole texts: their lengths, and their lines one behind the other.
+-- A result text: its length, and its lines one behind the other.
 -- Assumes nothing.
-use Prim.Native.Nat.{ℕ, zero, suc, _+_, _*_, _/_, _≤_, _<_}
-use mathlib.Core.Path.{_≡_, refl, sym, ap, ap₂, _∙_}
-use mathlib.Core.List.{List, [], _∷_, _++_}
+use Prim.Native.Nat.{ℕ, _+_, _*_, _/_, _≤_, min}
+use mathlib.Core.Path.{_≡_, ap, subst, _∙_}
+use mathlib.Core.List.{List, _++_}
 use native.Mathlib.Omega.{arith}
-use native.Mathlib.Nat.{zero-add}
-use borrow.Author.Tests.{lt-ltb, le-ltb}
-use lib.Dec.{ltb}
-use lib.ListN.{length, drop, length-append}
-use Rattle.meaning.specs.declared.Link.{Link}
-use Rattle.meaning.specs.Judge.{refuse}
-use Rattle.meaning.specs.Heap.{Heap, start, left}
+use lib.ListN.{length, length-append}
+use Rattle.meaning.specs.Heap.{start, left}
 use Rattle.pairs.specs.Side.{heapOf}
 use Rattle.cuts.specs.Record.{entrySize, cutsOf}
-use Rattle.texts.specs.declared.Written.the-variants.{Bytes, Refused}
-use Rattle.reading.specs.Reader.{put}
-use Rattle.texts.specs.Writers.{headLine, linkLines, cutLines, labelLines, closeLine, inputText, resultText, wrote, Writes}
-use Rattle.texts.specs.Writing.{over, Named}
-use Rattle.texts.proofs.Writes.{onto}
-use Rattle.texts.proofs.WritesLines.{labels-same, length-head, length-links, length-cuts, length-labels, length-close}
-
-pub length-input : (n k : ℕ) (links : List Link) (bytes : List ℕ) → length (inputText n k links bytes) ≡ 20 + 13 * length links + 47 * (length bytes / entrySize)
-unfolding inputText
-length-input n k links bytes =
-    simp length-append
-    (omega (
-      arith,
-      length-head n k,
-      length-links links,
-      length-cuts (length bytes / entrySize) bytes (omega arith),
-      length-close (1 + length links + length bytes / entrySize),
-    ))
+use Rattle.placing.specs.Placing.{over, Puts}
+use Rattle.placing.proofs.Writes.{onto, length-over}
+use Rattle.placing.proofs.Places.{puts-fit}
+use Rattle.lines.specs.Kinds.{headLine, cutLines, labelLines, closeLine}
+use Rattle.lines.proofs.WritesLines.{labels-same, length-head, length-cuts, length-labels, length-close}
+use Rattle.texts.specs.Writers.{resultText}
+use Rattle.texts.specs.Writing.{Named}
 
 pub length-result : (n k : ℕ) (bytes : List ℕ) → length (resultText n k bytes) ≡ 20 + 47 * (length bytes / entrySize) + 9 * n
 unfolding resultText
@@ -44,43 +28,40 @@ length-result n k bytes =
       length-close (1 + length bytes / entrySize + n),
     ))
 
--- a result text from its parts, each where the one before it ends
+-- a result text from its parts, each put where the one before it ends
 module _ (room bytes names : List ℕ) (n k : ℕ) (given : Named n k bytes names) (fits : length (resultText n k bytes) ≤ length room) where
-  pub result-made : (r s t u : List ℕ) (o p q f : ℕ)
-      → r ≡ over room 0 (headLine n k)
-      → o ≡ 11
-      → s ≡ over r o (cutLines (length bytes / entrySize) bytes)
-      → p ≡ o + 47 * (length bytes / entrySize)
-      → t ≡ over s p (labelLines n (heapOf names))
-      → q ≡ p + 9 * n
+  pub result-made : (r s t u : List ℕ) (o p q v f : ℕ)
+      → Puts room 0 (headLine n k) r o
+      → Puts r o (cutLines (length bytes / entrySize) bytes) s p
+      → Puts s p (labelLines (min n 128) (heapOf names)) t q
       → f ≡ 1 + length bytes / entrySize + n
-      → u ≡ over t q (closeLine f)
+      → Puts t q (closeLine f) u v
       → u ≡ over room 0 (resultText n k bytes)
   unfolding resultText
-  result-made r s t u o p q f e₁ o-is e₂ p-is e₃ q-is f-is e₄ =
+  result-made r s t u o p q v f e₁ e₂ e₃ f-is e₄ =
       let head = headLine n k in
       let cuts = cutLines (length bytes / entrySize) bytes in
       let labels = labelLines n (left n start (cutsOf bytes)) in
       let l₁ = length-head n k in
       let l₂ = length-cuts (length bytes / entrySize) bytes (omega arith) in
       let l₃ = length-labels n (left n start (cutsOf bytes)) in
+      let l₄ = length-close f in
       let l₁₂ = length-append head cuts in
       let l₁₂₃ = length-append (head ++ cuts) labels in
       let whole = length-result n k bytes in
-      let d₂ : s ≡ over room 0 (head ++ cuts) = e₂ ∙ onto room 0 head cuts r o e₁ (omega arith) (omega arith) in
-      let d₃ : t ≡ over room 0 (head ++ cuts ++ labels)
-      = e₃
-      ∙ ap (over s p) (labels-same n (heapOf names) (left n start (cutsOf bytes)) (given .names-of))
-      ∙ onto room 0 (head ++ cuts) labels s p d₂ (omega arith) (omega arith) in
-      e₄ ∙ ap (λ (x : ℕ). over t q (closeLine x)) f-is ∙ onto room 0 (head ++ cuts ++ labels) (closeLine _) t q d₃ (omega arith) (omega arith)
-
--- row 20, and what a writer then gives and leaves
-pub writes-short : (text room : List ℕ) → length room < length text → Writes (refuse (ltb (length room) (length text)) 20 0) text room room (Refused 20 0)
-unfolding refuse put wrote
-writes-short text room h = rw (lt-ltb _ _ h) (record { answer = refl; text-left = refl })
-
-pub writes-whole : (text room room′ : List ℕ) (count : ℕ) → length text ≤ length room → count ≡ length text → room′ ≡ over room 0 text
-    → Writes (refuse (ltb (length room) (length text)) 20 0) text room room′ (Bytes count)
-unfolding refuse put wrote over
-writes-whole text room room′ count h e f =
-    rw (le-ltb _ _ h) (record { answer = ap Bytes e; text-left = f ∙ ap (λ (m : ℕ). text ++ drop m room) (zero-add (length text)) })
+      let few : min n 128 ≡ n = omega (arith, given .bones) in
+      let named : labelLines (min n 128) (heapOf names) ≡ labels
+      = ap (λ (m : ℕ). labelLines m (heapOf names)) few ∙ labels-same n (heapOf names) (left n start (cutsOf bytes)) (given .names-of) in
+      -- each part fits behind the one before it
+      let d₁ = puts-fit room 0 head r o (omega arith) e₁ in
+      let r-long : length r ≡ length room = ap length (d₁ .1) ∙ length-over room 0 head (omega arith) in
+      let d₂ = puts-fit r o cuts s p (omega (arith, d₁ .0)) e₂ in
+      let s-is : s ≡ over room 0 (head ++ cuts) = d₂ .1 ∙ onto room 0 head cuts r o (d₁ .1) (omega (arith, d₁ .0)) (omega arith) in
+      let s-long : length s ≡ length room = ap length s-is ∙ length-over room 0 (head ++ cuts) (omega arith) in
+      let d₃ = puts-fit s p labels t q (omega (arith, d₁ .0, d₂ .0)) (subst (λ (l : List ℕ). Puts s p l t q) named e₃) in
+      let t-is : t ≡ over room 0 (head ++ cuts ++ labels)
+      = d₃ .1 ∙ onto room 0 (head ++ cuts) labels s p s-is (omega (arith, d₁ .0, d₂ .0)) (omega arith) in
+      let t-long : length t ≡ length room = ap length t-is ∙ length-over room 0 (head ++ cuts ++ labels) (omega arith) in
+      puts-fit t q (closeLine f) u v (omega (arith, d₁ .0, d₂ .0, d₃ .0)) e₄ .1
+      ∙ ap (λ (x : ℕ). over t q (closeLine x)) f-is
+      ∙ onto room 0 (head ++ cuts ++ labels) (closeLine _) t q t-is (omega (arith, d₁ .0, d₂ .0, d₃ .0)) (omega arith)

@@ -1,12 +1,6 @@
-// Texts: the writers of frames in lines of hexadecimal.
-pub mod input;
-mod kinds;
-pub mod refusal;
+// Texts: the writers of whole texts. That of result texts is here; those of input texts and of refusals are the crates' below.
 pub mod result;
-mod write;
 
-// What a writer answers: a refusal of the table with its place, or the number of bytes written.
-pub enum Written {
-    Refused { number: u32, place: u32 },
-    Bytes { count: u32 },
-}
+pub use inputs::input;
+pub use lines::Written;
+pub use lines::refusal;

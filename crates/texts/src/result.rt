@@ -1,12 +1,12 @@
 // The result writer: head, the record's cuts, the pile names that they leave, close. Its links are lent as records, so the writer itself is proved by
 // hand: it fills the table and leaves the rest to a function above the filled table.
-use super::Written;
-use super::kinds::put_close;
-use super::kinds::put_cuts;
-use super::kinds::put_head;
-use super::kinds::put_labels;
 use cuts::record::Record;
 use lent::fill_records;
+use lines::Written;
+use lines::kinds::put_close;
+use lines::kinds::put_cuts;
+use lines::kinds::put_head;
+use lines::kinds::put_labels;
 use meaning::Judged;
 use meaning::Link;
 use replay::judge_record;
@@ -19,8 +19,10 @@ ghost use Rattle.meaning.specs.declared.Judged.the-variants.{Accepted};
 ghost use Rattle.placed.specs.Records.{firstOf};
 ghost use Rattle.pairs.specs.Table.{held};
 ghost use Rattle.replay.specs.Rows.{recordRows};
-ghost use Rattle.texts.specs.Writers.{resultText, resultRows, Writes};
-ghost use Rattle.texts.specs.Writing.{over, Named};
+ghost use Rattle.lines.specs.Writing.{Writes};
+ghost use Rattle.texts.specs.Writers.{resultText, resultRows};
+ghost use Rattle.placing.specs.Placing.{over};
+ghost use Rattle.texts.specs.Writing.{Named};
 
 // The length of a result text.
 fn length_of(n: u64, cuts: usize) -> usize
@@ -36,11 +38,11 @@ fn put_result(room: &mut [u8], n: u64, k: u64, bytes: &[u8], names: &[u8; 128])
     requires { ⌜ length (resultText n k (now bytes)) ≤ length (now room) ⌝ }
     ensures { λ _. ⌜ now (room .exit) ≡ over (now (room .entry)) 0 (resultText n k (now (bytes .entry))) ⌝ }
 {
-    let cuts = put_head(room, 0, n, k);
+    let cuts = put_head(room, 0, n as u8, k as u16);
     let labels = put_cuts(room, cuts, bytes);
     let close = put_labels(room, labels, n as usize, names);
     let frames = 1 + (bytes.len() / Record::ENTRY) as u64 + n;
-    put_close(room, close, frames);
+    put_close(room, close, frames as u16);
 }
 
 // What the result writer does once rows 1 to 13 are passed: row 20, then the text.

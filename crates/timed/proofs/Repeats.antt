@@ -9,11 +9,11 @@ use native.Mathlib.Omega.{arith}
 use lib.ListN.{length, set, take}
 use lib.Seq.{take-suc-set}
 use Rattle.meaning.specs.declared.Link.{Link}
-use Rattle.pairs.specs.Links.{linkAt, linksOf}
-use Rattle.pairs.proofs.LinksBytes.{linksOf-at, length-linksOf}
+use Rattle.links.specs.Links.{linkAt, linksOf}
+use Rattle.links.proofs.LinksBytes.{linksOf-at, length-linksOf}
 use Rattle.placed.specs.Records.{noLink}
 use Rattle.placed.proofs.RecordsKept.{take-next}
-use Rattle.cutting.specs.declared.Answer.{Answer}
+use Rattle.runs.specs.declared.Answer.{Answer}
 use Rattle.cutting.specs.Calls.{Grouping}
 use Rattle.timed.specs.Groups.{groupsOf, Repeated}
 

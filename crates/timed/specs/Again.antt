@@ -8,9 +8,10 @@ use Rattle.meaning.specs.Judge.{first}
 use Rattle.placed.specs.Records.{noLink}
 use Rattle.reading.specs.declared.Reading.{Reading}
 use Rattle.reading.specs.Reader.{Reads}
-use Rattle.texts.specs.declared.Written.{Written}
-use Rattle.texts.specs.declared.Written.the-variants.{Bytes, Refused}
-use Rattle.texts.specs.Writers.{inputText, inputRows, Writes}
+use Rattle.lines.specs.declared.Written.{Written}
+use Rattle.lines.specs.declared.Written.the-variants.{Bytes, Refused}
+use Rattle.lines.specs.Writing.{Writes}
+use Rattle.inputs.specs.Inputs.{inputText, inputRows}
 
 -- room for the most links, and for the most entries
 abbrev pub linkSpace : List Link

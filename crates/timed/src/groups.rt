@@ -3,13 +3,13 @@
 use cutting::Answer;
 use cutting::grouping;
 use cutting::grouping_records;
+use links::tally_of;
 use meaning::Link;
-use pairs::links::tally_of;
 ghost use mathlib.Core.Path.{_≡_};
 ghost use mathlib.Core.Bool.{true};
 ghost use Prim.Native.Nat.{_+_, _*_, _/_, _≤_, min};
 ghost use lib.ListN.{length, take};
-ghost use Rattle.pairs.specs.Links.{whole, linksOf, linkAt};
+ghost use Rattle.links.specs.Links.{whole, linksOf, linkAt};
 ghost use Rattle.timed.specs.Groups.{groupsOf, recordsOf, Repeated};
 
 // The number of groups, nought where the call refused.

@@ -12,7 +12,7 @@ use lib.ListN.{length, getD, List·getD-eq-default}
 use Rattle.meaning.specs.Count.{Bones}
 use Rattle.meaning.specs.Heap.{Heap}
 use Rattle.meaning.proofs.Tests.{decide, is-false, left-of, right-of, both}
-use Rattle.pairs.proofs.Filling.{cond-yes, cond-no}
+use Rattle.joining.proofs.Filling.{cond-yes, cond-no}
 use Rattle.pairs.specs.Side.{sideOf}
 use Rattle.growing.specs.Blocks.{untaken}
 use Rattle.weighing.specs.Scan.{byteOf, halfOf, bitOf}

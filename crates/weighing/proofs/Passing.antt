@@ -16,11 +16,11 @@ use Rattle.meaning.proofs.Tests.{decide, taut, so, _⊃_}
 use Rattle.meaning.proofs.Totals.{Symmetric}
 use Rattle.pairs.specs.Side.{heapOf}
 use Rattle.growing.specs.Blocks.{inBlock, cross, BlockNames, butFor}
-use Rattle.pairs.specs.Marks.{marked, Room, Grown, Filled}
+use Rattle.joining.specs.Marks.{marked, Room, Grown, Filled}
 use Rattle.weighing.specs.Scan.{Picked, Passed}
 use Rattle.growing.proofs.Adjacency.{light-joins}
 use Rattle.growing.proofs.Merging.{closed-set, Gone, Choice, names-after, kept-after, fewer-after}
-use Rattle.pairs.proofs.Filling.{cond-yes, cond-no}
+use Rattle.joining.proofs.Filling.{cond-yes, cond-no}
 use Rattle.weighing.proofs.Scanning.{State, picked-greatest, picked-light, state-taken, gone-taken, lost-taken, count-taken, state-start, start-free, start-greatest, start-alone}
 
 -- what holds whenever the next block has been picked: the scan's state, the block taken last, that p's block was taken, the block picked

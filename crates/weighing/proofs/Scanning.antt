@@ -19,9 +19,9 @@ use Rattle.meaning.proofs.Sums.{sum-ext, count-most}
 use Rattle.meaning.proofs.Sets.{some-intro}
 use Rattle.pairs.specs.Side.{heapOf}
 use Rattle.growing.specs.Blocks.{inBlock, taken, untaken, cross, BlockNames, LightSide, butFor}
-use Rattle.pairs.specs.Marks.{marked, Grown, Filled}
+use Rattle.joining.specs.Marks.{marked, Grown, Filled}
 use Rattle.weighing.specs.Scan.{Picked}
-use Rattle.pairs.proofs.Filling.{zeros}
+use Rattle.joining.proofs.Filling.{zeros}
 use Rattle.growing.proofs.Attach.{butFor-other}
 use Rattle.growing.proofs.Adjacency.{same-beq, Closed, Bounded, Greatest, cross-taken, cross-none, bounded-taken, bounded-none, out-weight, untaken-weight, last-weight}
 use Rattle.growing.proofs.Merging.{closed-set, Gone, Merged, Choice, merged-none, merged-taken, gone-u, count-fewer}

@@ -12,7 +12,7 @@ use Rattle.meaning.specs.Heap.{Heap, pile}
 use Rattle.pairs.specs.Table.{held}
 use Rattle.pairs.specs.Side.{heapOf}
 use Rattle.growing.specs.Blocks.{inBlock, reaches, cross, BlockNames, blocks, Kept, LightSide, untaken}
-use Rattle.pairs.specs.Marks.{marked}
+use Rattle.joining.specs.Marks.{marked}
 
 -- the same of runs of bytes: the block named x of the pile named p; that the blocks of the pile bear names of bones
 abbrev pub blockAt : ℕ → List ℕ → ℕ → List ℕ → ℕ → Bones

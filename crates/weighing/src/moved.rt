@@ -1,12 +1,12 @@
 // The free blocks of a pile as the bytes of a side: bone b is the bit worth 2 to the power b mod 8 of byte b div 8.
-use pairs::numbers::bone;
+use joining::numbers::bone;
 ghost use mathlib.Core.Path.{_≡_};
 ghost use Prim.Native.Nat.{ℕ, _+_, _*_, _<_, _≤_};
 ghost use lib.Dec.{T};
 ghost use Rattle.meaning.specs.Heap.{pile};
 ghost use Rattle.pairs.specs.Side.{heapOf, sideOf};
 ghost use Rattle.growing.specs.Blocks.{untaken};
-ghost use Rattle.pairs.specs.Marks.{marked};
+ghost use Rattle.joining.specs.Marks.{marked};
 ghost use Rattle.weighing.specs.Scan.{BoneNames, bitOf, halfOf, byteOf};
 
 // 1 where bone b is in the pile and its block is free, else 0.

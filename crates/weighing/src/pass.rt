@@ -7,7 +7,8 @@ use crate::scan::pick;
 use crate::scan::rename;
 use crate::scan::take;
 use growing::grow::Outcome;
-use pairs::numbers::bone;
+use joining::is_short;
+use joining::numbers::bone;
 ghost use mathlib.Core.Path.{_≡_};
 ghost use mathlib.Core.Bool.{not};
 ghost use Prim.Native.Nat.{ℕ, _<_, _≤_};
@@ -17,7 +18,7 @@ ghost use Rattle.meaning.specs.Heap.{pile, stands};
 ghost use Rattle.pairs.specs.Table.{held};
 ghost use Rattle.pairs.specs.Side.{heapOf};
 ghost use Rattle.growing.specs.Blocks.{BlockNames};
-ghost use Rattle.pairs.specs.Marks.{marked};
+ghost use Rattle.joining.specs.Marks.{marked};
 ghost use Rattle.weighing.specs.Scan.{Passed};
 
 // What a pass finds: a light side and its weight, or that the pile is one block. Where neither, blocks were joined.
@@ -54,7 +55,7 @@ pub(crate) fn pass(
         };
     }
     while u < 128 {
-        if out < k {
+        if is_short(out, k) {
             return Outcome {
                 light: true,
                 one: false,

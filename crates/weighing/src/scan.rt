@@ -1,5 +1,6 @@
 // The parts of a scan: the tallies between a block that is taken and every block of the pile.
-use pairs::numbers::bone;
+use joining::numbers::bone;
+use joining::of_pile;
 use pairs::table::tally_between;
 ghost use mathlib.Core.Path.{_≡_};
 ghost use mathlib.Core.Bool.{true, cond, not, _&&_};
@@ -10,7 +11,7 @@ ghost use Rattle.meaning.specs.Heap.{pile};
 ghost use Rattle.pairs.specs.Table.{held};
 ghost use Rattle.pairs.specs.Side.{heapOf};
 ghost use Rattle.growing.specs.Blocks.{butFor};
-ghost use Rattle.pairs.specs.Marks.{marked, Room, Grown, Filled};
+ghost use Rattle.joining.specs.Marks.{marked, Room, Grown, Filled};
 ghost use Rattle.weighing.specs.Scan.{blockAt, BoneNames, blockTally, boneTally, Picked, Looked};
 
 // The tally of two bones.
@@ -38,7 +39,7 @@ fn add_pair(
     requires { ⌜ Room (now attach) (2 ^ 32) ⌝ }
     ensures { λ r. ⌜ Grown (now (attach .entry)) (now (attach .exit)) (butFor u (λ x. cond (blockAt n (now (names .entry)) p (now (block .entry)) x c) (held (now (table .entry)) b c) 0)) (2 ^ 32) ⌝ }
 {
-    if bone(names[c]) == p {
+    if of_pile(names[c], p) {
         let x = bone(block[c]);
         if x != u {
             attach[x] = attach[x] + tally(table, b, c);

@@ -1,4 +1,4 @@
--- `answering::after_grouping` meets its contract: a walk of its MIR, by hand, by cases on what grouping answered. Its refusal goes to `refuse`; else the front of
+-- `answering::after_grouping` meets its contract: a walk of its MIR, by hand, by cases on what grouping answered. Its refusal goes to `write_refused`; else the front of
 -- the record space is lent to `write_result`, with the links and the text space. All that the proof knows of the functions that are called is that each meets
 -- its contract.
 -- Assumes nothing.
@@ -45,12 +45,13 @@ use Rattle.meaning.specs.Judge.{first as first-of}
 use Rattle.placed.proofs.RecordsLink.{R}
 use Rattle.lent.proofs.RecordsCalls.{calls-plain}
 use Rattle.lent.proofs.RecordsRead.{Own}
-use Rattle.cutting.specs.declared.Answer.{Answer}
-use Rattle.cutting.specs.declared.Answer.the-variants.{Gave, Refused}
+use Rattle.runs.specs.declared.Answer.{Answer}
+use Rattle.runs.specs.declared.Answer.the-variants.{Gave, Refused}
 use Rattle.cuts.specs.Record.{entrySize}
-use Rattle.texts.specs.declared.Written.{Written}
-use Rattle.texts.specs.Writers.{resultText, resultRows, Writes}
-use Rattle.texts.proofs.WritesAnswer.{Wn, typed-held}
+use Rattle.lines.specs.declared.Written.{Written}
+use Rattle.lines.specs.Writing.{Writes}
+use Rattle.texts.specs.Writers.{resultText, resultRows}
+use Rattle.lines.proofs.WritesAnswer.{Wn, typed-held}
 use Rattle.texts.proofs.result.write_result as res
 use Rattle.texts.proofs.result.write_result.Symbol as res-def
 use Rattle.texts.proofs.result.write_result.Symbol.{name as #write-result}
@@ -59,13 +60,13 @@ use Rattle.answering.specs.Steps.{Ready, AfterGrouping}
 use Rattle.answering.proofs.AnswerRow.{An, told, told-so, typed-answer, made-answer, refusal-fits, count-fits}
 use Rattle.answering.proofs.Calls.{Refuse, calls-to-last, calls-refuse, matches, lands-then}
 use Rattle.lent.proofs.Locals.{part-of, lends-front}
-use Rattle.answering.proofs.refuse.Symbol as ref-def
-use Rattle.answering.proofs.refuse.Symbol.{name as #refuse}
-use Rattle.answering.proofs.refuse.Met as ref-thm
-use Rattle.answering.proofs.size_of_run as siz
-use Rattle.answering.proofs.size_of_run.Symbol as siz-def
-use Rattle.answering.proofs.size_of_run.Symbol.{name as #size-of-run}
-use Rattle.answering.proofs.size_of_run.Met as siz-thm
+use Rattle.lines.proofs.refusal.write_refused.Symbol as ref-def
+use Rattle.lines.proofs.refusal.write_refused.Symbol.{name as #refuse}
+use Rattle.lines.proofs.refusal.write_refused.Met as ref-thm
+use Rattle.lines.proofs.entries.size_of_run as siz
+use Rattle.lines.proofs.entries.size_of_run.Symbol as siz-def
+use Rattle.lines.proofs.entries.size_of_run.Symbol.{name as #size-of-run}
+use Rattle.lines.proofs.entries.size_of_run.Met as siz-thm
 use Rattle.answering.proofs.after_grouping.Key.{name as #after-grouping}
 use Rattle.answering.proofs.after_grouping as f
 use Rattle.answering.proofs.after_grouping.Statement as stated
@@ -225,7 +226,7 @@ after-grouping-spec 𝓤 H 𝓜 𝓖 𝓡 =
     (λ κs. ((λ g. told g ∷ []), (uint-vals w64, (uint-vals w64, (slice-vals, (slice-vals, (slice-vals, tt))))))) (λ κs. (told-so, (uint-tells w64, (uint-tells w64, (shr-slice-tells (named 0) (κs .0) R, (shr-slice-tells (named 1) (κs .1 .0) u8, (mut-slice-tells (named 2) (κs .1 .1 .0) u8, tt)))))))
     (λ κs qs bounds a g are. needs 𝓤 _ _ (λ asked. walk 𝓤 H (𝓖 .A) W (𝓜 .mem) (𝓡 .run) (κs .0) (κs .1 .0) (κs .1 .1 .0) (qs .0) (qs .1 .0) (qs .1 .1 .0) (a .1 .0) (a .1 .1 .0) (a .1 .1 .1 .0) (a .1 .1 .1 .1 .0) (a .1 .1 .1 .1 .1 .0)
     (are .1 .0 .1) (are .1 .1 .0 .1) (are .1 .1 .1 .0 .0 .1) (are .1 .1 .1 .1 .0 .0 .1) (are .1 .1 .1 .1 .1 .0 .0 .1) 𝓣
-    (cited 𝓤 H (Refuse 𝓤 H (𝓖 .A) (𝓜 .mem) (𝓡 .run)) 𝓜 𝓡 code.env #refuse ref-def.routine code.calls-answering·refuse (ref-thm.met 𝓤 H 𝓜 𝓖 𝓡))
-    (cited 𝓤 H (SizeOf 𝓤 H (𝓖 .A) (𝓜 .mem) (𝓡 .run)) 𝓜 𝓡 code.env #size-of-run siz-def.routine code.calls-answering·size-of-run (siz-thm.met 𝓤 H 𝓜 𝓖 𝓡))
+    (cited 𝓤 H (Refuse 𝓤 H (𝓖 .A) (𝓜 .mem) (𝓡 .run)) 𝓜 𝓡 code.env #refuse ref-def.routine code.calls-lines·refusal·write-refused (ref-thm.met 𝓤 H 𝓜 𝓖 𝓡))
+    (cited 𝓤 H (SizeOf 𝓤 H (𝓖 .A) (𝓜 .mem) (𝓡 .run)) 𝓜 𝓡 code.env #size-of-run siz-def.routine code.calls-lines·entries·size-of-run (siz-thm.met 𝓤 H 𝓜 𝓖 𝓡))
     (cited 𝓤 H (Result 𝓤 H (𝓖 .A) (𝓜 .mem) (𝓡 .run)) 𝓜 𝓡 code.env #write-result res-def.routine code.calls-texts·result·write-result (res-thm.met 𝓤 H 𝓜 𝓖 𝓡))
     (a .0) (are .0) asked))))

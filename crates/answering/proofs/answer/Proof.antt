@@ -48,10 +48,10 @@ use Rattle.placed.specs.Records.{noLink}
 use Rattle.placed.proofs.RecordsLink.{R, val, vals, tells, no-link-is, typed, copied, made}
 use Rattle.lent.proofs.RecordsCalls.{calls-to}
 use Rattle.reading.specs.declared.Reading.{Reading}
-use Rattle.texts.specs.declared.Written.{Written}
+use Rattle.lines.specs.declared.Written.{Written}
 use Rattle.reading.specs.Reader.{Reads}
 use Rattle.reading.proofs.ReadsRow.{D, made-reading}
-use Rattle.texts.proofs.WritesAnswer.{Wn, typed-held}
+use Rattle.lines.proofs.WritesAnswer.{Wn, typed-held}
 use Rattle.reading.proofs.reader.read as rea
 use Rattle.reading.proofs.reader.read.Symbol as rea-def
 use Rattle.reading.proofs.reader.read.Symbol.{name as #read}

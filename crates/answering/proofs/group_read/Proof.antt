@@ -47,14 +47,14 @@ use Rattle.meaning.specs.Judge.{first as first-of}
 use Rattle.placed.proofs.RecordsLink.{R}
 use Rattle.lent.proofs.RecordsCalls.{calls-to}
 use Rattle.lent.proofs.RecordsRead.{Own}
-use Rattle.cutting.specs.declared.Answer.{Answer}
+use Rattle.runs.specs.declared.Answer.{Answer}
 use Rattle.cutting.specs.Calls.{Grouping}
 use Rattle.cutting.proofs.grouping_records as grp
 use Rattle.cutting.proofs.grouping_records.Symbol as grp-def
 use Rattle.cutting.proofs.grouping_records.Symbol.{name as #grouping-records}
 use Rattle.cutting.proofs.grouping_records.Met as grp-thm
-use Rattle.texts.specs.declared.Written.{Written}
-use Rattle.texts.proofs.WritesAnswer.{Wn, typed-held}
+use Rattle.lines.specs.declared.Written.{Written}
+use Rattle.lines.proofs.WritesAnswer.{Wn, typed-held}
 use Rattle.answering.specs.Prints.{groupedRows, Answers}
 use Rattle.answering.specs.Steps.{Ready, AfterGrouping}
 use Rattle.answering.proofs.AfterGroup.{grouping-ready, grouping-answers}

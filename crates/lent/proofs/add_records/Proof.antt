@@ -45,7 +45,7 @@ use denote.Exit.{yes}
 use Rattle.meaning.specs.declared.Link.{Link}
 use Rattle.meaning.specs.declared.Judged.the-variants.{Accepted}
 use Rattle.meaning.specs.Judge.{first as first-of}
-use Rattle.pairs.specs.Links.{linksRows}
+use Rattle.links.specs.Links.{linksRows}
 use Rattle.pairs.specs.Table.{tallied}
 use Rattle.placed.specs.Records.{noLink}
 use Rattle.lent.proofs.RecordsRows.{tallied-take, tallied-no, ends-below}

@@ -41,7 +41,7 @@ use denote.Exit.{yes}
 use Rattle.meaning.specs.declared.Link.{Link}
 use Rattle.meaning.specs.declared.Judged.{Judged}
 use Rattle.meaning.specs.Judge.{first as first-of}
-use Rattle.pairs.specs.Links.{tableRows}
+use Rattle.links.specs.Links.{tableRows}
 use Rattle.pairs.specs.Table.{tallied, filled}
 use Rattle.placed.specs.Records.{upTo}
 use Rattle.lent.proofs.RecordsRows.{upTo-most, upTo-accepts, upTo-filled}

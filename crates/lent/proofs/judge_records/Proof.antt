@@ -48,16 +48,16 @@ use Rattle.meaning.specs.declared.Link.{Link}
 use Rattle.meaning.specs.declared.Judged.{Judged}
 use Rattle.meaning.specs.declared.Judged.the-variants.{Accepted}
 use Rattle.meaning.specs.Judge.{first as first-of}
-use Rattle.pairs.specs.Links.{linkRows, countRows, tableRows}
+use Rattle.links.specs.Links.{linkRows, countRows, tableRows}
 use Rattle.placed.specs.Records.{noLink, firstOf, upTo, refusedLinks, toJudge}
 use Rattle.lent.proofs.RecordsRows.{soFar, soFar-none, soFar-next, judged-all, toJudge-most, upTo-few, upTo-most, upTo-4096, all-but, few-bones}
 use Rattle.placed.proofs.RecordsLink.{R, link, val, made, typed, J, judged, told, IsJudged, told-so, typed-judged, made-judged, slice}
 use Rattle.lent.proofs.RecordsCalls.{calls-plain, calls-over}
 use Rattle.lent.proofs.RecordsRead.{Own, LinkAt, calls-link-at}
-use Rattle.pairs.proofs.links.judge_counts as counts
-use Rattle.pairs.proofs.links.judge_counts.Symbol as counts-def
-use Rattle.pairs.proofs.links.judge_counts.Symbol.{name as #judge-counts}
-use Rattle.pairs.proofs.links.judge_counts.Met as counts-thm
+use Rattle.links.proofs.judge_counts as counts
+use Rattle.links.proofs.judge_counts.Symbol as counts-def
+use Rattle.links.proofs.judge_counts.Symbol.{name as #judge-counts}
+use Rattle.links.proofs.judge_counts.Met as counts-thm
 use Rattle.lent.proofs.up_to as up
 use Rattle.lent.proofs.up_to.Symbol as up-def
 use Rattle.lent.proofs.up_to.Symbol.{name as #up-to}
@@ -265,7 +265,7 @@ judge-records-spec 𝓤 H 𝓜 𝓖 𝓡 =
     (f.clauses 𝓤 H (𝓖 .A) (𝓜 .mem) (𝓡 .run)) (WpFn 𝓤 H (𝓣 .C) (𝓣 .Λ) code.function) (WpFn-mono 𝓤 H (W .laws) 𝓣 code.function)
     (walked 𝓤 H (𝓖 .A) f.ended stayed (f.clauses 𝓤 H (𝓖 .A) (𝓜 .mem) (𝓡 .run)) (WpFn 𝓤 H (𝓣 .C) (𝓣 .Λ) code.function) (λ κs. (uint-vals w64, (uint-vals w64, (slice-vals, tt)))) (λ κs. (uint-tells w64, (uint-tells w64, (shr-slice-tells (named 0) (κs .0) R, tt))))
     (λ κs qs bounds a g are. via 𝓤 _ (fst∗ 𝓤 _ (emp 𝓤)) (walk 𝓤 H (𝓖 .A) W (𝓜 .mem) (𝓡 .run) (κs .0) (qs .0) (a .0) (a .1 .0) (a .1 .1 .0) (are .0 .1) (are .1 .0 .1) (are .1 .1 .0 .0 .1) 𝓣
-    (cited 𝓤 H (Counts 𝓤 H (𝓖 .A) (𝓜 .mem) (𝓡 .run)) 𝓜 𝓡 code.env #judge-counts counts-def.routine code.calls-pairs·links·judge-counts (counts-thm.met 𝓤 H 𝓜 𝓖 𝓡))
+    (cited 𝓤 H (Counts 𝓤 H (𝓖 .A) (𝓜 .mem) (𝓡 .run)) 𝓜 𝓡 code.env #judge-counts counts-def.routine code.calls-links·judge-counts (counts-thm.met 𝓤 H 𝓜 𝓖 𝓡))
     (cited 𝓤 H (Up 𝓤 H (𝓖 .A) (𝓜 .mem) (𝓡 .run)) 𝓜 𝓡 code.env #up-to up-def.routine code.calls-lent·up-to (up-thm.met 𝓤 H 𝓜 𝓖 𝓡))
     (cited 𝓤 H (Fewer 𝓤 H (𝓖 .A) (𝓜 .mem) (𝓡 .run)) 𝓜 𝓡 code.env #fewer-of fwr-def.routine code.calls-lent·fewer-of (fwr-thm.met 𝓤 H 𝓜 𝓖 𝓡))
     (cited 𝓤 H (Refused 𝓤 H (𝓖 .A) (𝓜 .mem) (𝓡 .run)) 𝓜 𝓡 code.env #refused-links ref-def.routine code.calls-lent·refused-links (ref-thm.met 𝓤 H 𝓜 𝓖 𝓡))

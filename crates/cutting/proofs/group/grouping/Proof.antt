@@ -2,8 +2,10 @@
 use mathlib.Core.Path.{sym, _∙_}
 use native.Mathlib.Omega.{arith}
 use lib.ListN.{length}
-use Rattle.pairs.proofs.LinksBytes.{linksOf-short}
-use Rattle.cutting.proofs.Carried.{filled-counted, filled-alike, grouping-core, grouping-stop, grouped-alike, grouped-refused}
+use Rattle.links.proofs.LinksBytes.{linksOf-short}
+use Rattle.links.proofs.LinksRows.{first-accepted}
+use Rattle.runs.proofs.Told.{grouped-refused}
+use Rattle.cutting.proofs.Carried.{counts-pass, filled-alike, grouping-core, grouping-stop, grouped-alike}
 use borrow.Author.Needs.{needs}
 use Rattle.cutting.proofs.group.grouping.Statement.{statement}
 use Rattle.cutting.proofs.group.grouping.Tie as tie
@@ -15,9 +17,7 @@ enum-told : tie.Need-enum-told
 enum-told c = search needs
 
 group-table-requires : tie.Need-group-table-requires
-group-table-requires c κs =
-    let counted = filled-counted _ _ _ _ _ (c .before .before .before .before .before .fill .ensures .0) (c .before .before .before .enum-told .given .1) in
-    (counted .some-bones, counted .few-bones, counted .low-threshold)
+group-table-requires c κs = search needs
 
 enum-known-number : tie.Need-enum-known-number
 enum-known-number c = search needs
@@ -36,7 +36,7 @@ returns c =
     let short = linksOf-short (a .links .now) (λ i. omega (arith, c .before .before .before .before .before .before .before .before .before .before .before .before .before .before .before .shared-slice-known .given i)) in
     let alike = filled-alike (a .n) (a .k) _ _ _ judged accepted _ (c .before .before .before .before .before .before .before .before .before .before .fill .ensures .1) short in
     grouped-alike (a .n) _ _ alike (a .k) _ _ _ _ _ _ _ _
-    (grouping-core (a .n) (a .k) _ _ (a .«record» .now) (length (a .labels .now)) (length (a .space .now)) _ alike (sym judged ∙ accepted))
+    (first-accepted _ _ (counts-pass (a .n) (a .k) _ _ (sym judged ∙ accepted)) ∙ grouping-core (a .n) (a .k) _ _ (a .«record» .now) (length (a .labels .now)) (length (a .space .now)) _ alike (sym judged ∙ accepted))
     (c .before .before .before .before .group-table .ensures)
 
 returns-2 : tie.Need-returns-2

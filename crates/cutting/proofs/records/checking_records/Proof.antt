@@ -44,7 +44,7 @@ use denote.Exit.{yes}
 use Rattle.meaning.specs.declared.Link.{Link}
 use Rattle.meaning.specs.declared.Judged.{Judged}
 use Rattle.meaning.specs.Judge.{first as first-of}
-use Rattle.pairs.specs.Links.{tableRows}
+use Rattle.links.specs.Links.{tableRows}
 use Rattle.pairs.specs.Table.{held, filled}
 use Rattle.placed.proofs.RecordsLink.{R, J, told, IsJudged, typed-judged, made-judged}
 use Rattle.lent.proofs.RecordsCalls.{calls-to}
@@ -56,13 +56,14 @@ use Rattle.lent.proofs.RecordsFill.{FillRecords, calls-fill}
 use Rattle.lent.proofs.fill_records.Symbol as fill-def
 use Rattle.lent.proofs.fill_records.Symbol.{name as #fill-records}
 use Rattle.lent.proofs.fill_records.Met as fill-thm
-use Rattle.cutting.specs.declared.Answer.{Answer}
+use Rattle.runs.specs.declared.Answer.{Answer}
 use Rattle.replay.specs.Rows.{recordRows}
-use Rattle.cutting.specs.Rows.{labelRow}
-use Rattle.cutting.specs.Calls.{Checked, Checking}
-use Rattle.cutting.proofs.Judged.{judged-few, judged-checking}
-use Rattle.cutting.proofs.Answer as Ans
-use Rattle.cutting.proofs.Answer.Laws as Ans′
+use Rattle.runs.specs.Rows.{labelRow}
+use Rattle.runs.specs.Runs.{Checked}
+use Rattle.cutting.specs.Calls.{Checking}
+use Rattle.cutting.proofs.Judged.{judged-counts, judged-checking}
+use Rattle.runs.proofs.Answer as Ans
+use Rattle.runs.proofs.Answer.Laws as Ans′
 use Rattle.cutting.proofs.records.check_judged as core
 use Rattle.cutting.proofs.records.check_judged.Symbol as core-def
 use Rattle.cutting.proofs.records.check_judged.Symbol.{name as #check-judged}
@@ -122,7 +123,7 @@ module _ {M : Type 1} (𝓤 : URA M) (H : Heap 𝓤) (A : Atoms 𝓤) (W : Given
     goes-core : (β : ℕ) (γ : GName) (j : Judged) → IsJudged j → j ≡ first-of (tableRows n k true links)
         → ent 𝓤 (⋆ 𝓤 H A (‵ (OwnShared β γ) ∷ ‵ (flft (β ∷ []) fullShare) ∷ ‵ OwnRecord ∷ ‵ (flft κ₁ q₁) ∷ ‵ OwnLabels ∷ ‵ (flft κ₂ q₂) ∷ [])) (Core 𝓤 H A mem run .pre (to-core β γ j))
     goes-core β γ j is e =
-        qed W (‵ (OwnShared β γ) ∷ ‵ (flft (β ∷ []) fullShare) ∷ ‵ OwnRecord ∷ ‵ (flft κ₁ q₁) ∷ ‵ OwnLabels ∷ ‵ (flft κ₂ q₂) ∷ []) ∵ says ! (judged-few n k true links j e) $
+        qed W (‵ (OwnShared β γ) ∷ ‵ (flft (β ∷ []) fullShare) ∷ ‵ OwnRecord ∷ ‵ (flft κ₁ q₁) ∷ ‵ OwnLabels ∷ ‵ (flft κ₂ q₂) ∷ []) ∵ says ! (judged-counts n k true links j e) $
         nothing ! $ move ! (6 ∷ 0 ∷ []) $ join ! $ move ! (4 ∷ 0 ∷ []) $ join ! $ move ! (2 ∷ 0 ∷ []) $ join ! $ frame ! $
         nothing ! $ move ! (3 ∷ 0 ∷ []) $ fjoin ! $ move ! (2 ∷ 0 ∷ []) $ fjoin ! $ owned ! u64 (Is u64) (uint-makes 𝓤 H A W w64) k (vint w64 k ∷ []) (refl, gk) $ fjoin ! $
         owned ! u64 (Is u64) (uint-makes 𝓤 H A W w64) n (vint w64 n ∷ []) (refl, gn) $ fjoin ! $ move ! (1 ∷ 0 ∷ []) $ fjoin ! $ owned ! J (Is J) (made-judged 𝓤 H A W) j (told j ∷ []) is $ fjoin ! $ done !

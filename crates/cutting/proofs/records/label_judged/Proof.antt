@@ -1,6 +1,6 @@
 -- `cutting::records::label_judged` meets its contract, by cases on what was judged. Assumes nothing.
 use mathlib.Core.Path.{refl, sym, _∙_}
-use Rattle.pairs.proofs.LinksRows.{never-both}
+use Rattle.links.proofs.LinksRows.{never-both}
 use Rattle.cutting.proofs.Judged.{judged-accepted, judged-refused}
 use Rattle.cutting.proofs.Keeping.{links-short, links-fit}
 use borrow.Author.Needs.{needs}

@@ -46,11 +46,11 @@ use Rattle.meaning.specs.declared.Judged.{Judged}
 use Rattle.meaning.specs.declared.Judged.the-variants.{Accepted}
 use Rattle.meaning.specs.Judge.{first as first-of}
 use Rattle.meaning.specs.Firm.{label}
-use Rattle.pairs.specs.Links.{tableRows}
+use Rattle.links.specs.Links.{tableRows}
 use Rattle.placed.specs.Records.{keptLinks, written}
 use Rattle.pairs.specs.Side.{heapOf}
 use Rattle.pairs.specs.Table.{held, filled}
-use Rattle.pairs.proofs.LinksBytes.{Short}
+use Rattle.links.proofs.LinksBytes.{Short}
 use Rattle.placed.proofs.RecordsLink.{R, judged, slice, IsJudged, told, typed-judged, made-judged}
 use Rattle.lent.proofs.RecordsCalls.{calls-plain}
 use Rattle.lent.proofs.RecordsRead.{Own}
@@ -68,7 +68,7 @@ use Rattle.cutting.specs.declared.Thinned.{Thinned}
 use Rattle.cutting.specs.Rows.{linkRow}
 use Rattle.cutting.specs.Thin.{refused}
 use Rattle.cutting.specs.Calls.{keeping, ThinningRecords}
-use Rattle.cutting.proofs.Judged.{judged-fits}
+use Rattle.cutting.proofs.Judged.{judged-counts}
 use Rattle.cutting.proofs.JudgedThin.{not-refused, records-refused, kept-fits, records-kept}
 use Rattle.cutting.proofs.RecordsLabels.{Labels, labelsTy, blanks, blanks-typed, lies-blanks, labels-room}
 use Rattle.cutting.proofs.RecordsThin.{Labelled, OwnSpace, LabelJudged, KeepLinks, gives-up, calls-label, calls-keep}
@@ -234,7 +234,7 @@ module _ {M : Type 1} (𝓤 : URA M) (H : Heap 𝓤) (A : Atoms 𝓤) (W : Given
         assigns ! (of-opd ! (load ! (from ! (fld ! refl (stop !))) (look-in ! 32 (sub ! 1 refl (whole !))))) (from ! (stop !)) (init ! 16 refl (tt, record { fits = room-z .0 })) $
         assigns ! (addr ! (from ! (stop !))) (from ! (stop !)) (init ! 14 refl (tt, tt)) $ move ! (2 ∷ 3 ∷ []) $
         -- [the table; the labels; what the links own; their token; what the room owns; its token; _18; ..]
-        calls-label ! mem run (fmOf 𝓤 H (W .laws) 𝓣) known-label j n k (length links) (length (z .now)) l₅ (filled j noughts links) l₆ blanks isj gn gk (room .0) (room-z .0) (judged-fits n k true links j ej)
+        calls-label ! mem run (fmOf 𝓤 H (W .laws) 𝓣) known-label j n k (length links) (length (z .now)) l₅ (filled j noughts links) l₆ blanks isj gn gk (room .0) (room-z .0) (judged-counts n k true links j ej)
         (λ α β γ δ. (and-then ! (load ! (from ! (stop !)) (look ! 29 refl)) (and-then ! (load ! (from ! (stop !)) (look ! 21 refl)) (and-then ! (load ! (from ! (stop !)) (look ! 39 refl)) (and-then ! (load ! (from ! (stop !)) (look ! 37 refl)) (and-then ! (load ! (from ! (stop !)) (look ! 19 refl)) (and-then ! (load ! (from ! (stop !)) (look ! 17 refl)) (and-then ! (load ! (from ! (stop !)) (look ! 15 refl)) (no-more !))))))))) (λ r ls el isr.
         land ! (from ! (stop !)) (init ! 26 refl (typed-judged 𝓤 H A W r isr)) $
         calls-plain (ref.signature .params) (ref.ended .kept) Boolean vbool bool-tells ! (fmOf 𝓤 H (W .laws) 𝓣) (ref.clauses 𝓤 H A mem run) known-refuses (r, tt) (told r ∷ [], tt) tt (made-judged 𝓤 H A W, tt) (isr, tt) (id⊢ 𝓤 _) (λ s. s ≡ refused r) (λ s ws. id⊢ 𝓤 _)

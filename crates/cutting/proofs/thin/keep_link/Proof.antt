@@ -5,7 +5,7 @@ use native.Mathlib.Omega.{arith}
 use lib.ListN.{length, take, drop, length-take, length-drop}
 use lib.Seq.{paste}
 use borrow.Author.Tests.{not-true, not-false}
-use Rattle.pairs.specs.Links.{linkAt}
+use Rattle.links.specs.Links.{linkAt}
 use Rattle.cuts.proofs.Entries.{paste-fits}
 use Rattle.cutting.proofs.Keeping.{keeps-not, keeps-it, same-bones}
 use borrow.Author.Needs.{needs}

@@ -1,8 +1,8 @@
 -- `cutting::thin::thin_table` meets its contract. Assumes nothing.
 use native.Mathlib.Omega.{arith}
-use Rattle.pairs.specs.Links.{linksOf}
-use Rattle.pairs.proofs.LinksBytes.{length-linksOf}
-use Rattle.pairs.proofs.LinksRows.{links-accepted, links-proper, propers-more}
+use Rattle.links.specs.Links.{linksOf}
+use Rattle.links.proofs.LinksBytes.{length-linksOf}
+use Rattle.links.proofs.LinksRows.{counts-accepted, links-accepted, links-proper, propers-more}
 use Rattle.cutting.specs.Calls.{linkBytes}
 use Rattle.cutting.proofs.Keeping.{kept-same, kept-most, links-short, links-fit, thins-refused, thins-accepted}
 use borrow.Author.Needs.{needs}
@@ -15,18 +15,18 @@ returns c =
     thins-refused linkBytes _ _ _ _ _ _ 14 0 (links-short _ _ (omega (arith, c .if1 .taken, length-linksOf (a .links .now))))
 
 name-groups-requires : tie.Need-name-groups-requires
-name-groups-requires c κs = let p = c .before .before .before .before .pre in (p .0, p .1, p .2)
+name-groups-requires c κs = c .before .before .before .before .pre .0
 
 keep-requires : tie.Need-keep-requires
 keep-requires c κs =
     let s = c .before .before .before .before .before .before .before in
     let links = linksOf (s .args .links .now) in
-    (links-proper 128 0 links (propers-more (s .args .n) 128 links (s .pre .1) (links-accepted (s .args .n) 0 links (s .pre .4))), c .before .before .before .before .if1 .left)
+    (links-proper 128 0 links (propers-more (s .args .n) 128 links (counts-accepted _ _ _ _ (s .pre .0) .few-bones) (links-accepted (s .args .n) 0 links (s .pre .2))), c .before .before .before .before .if1 .left)
 
 cast-t17 : tie.Need-cast-t17
 cast-t17 c =
     let s = c .before .before .before .before .before .before .before .before .before .before in
-    omega (arith, c .before .before .keep .ensures .0, kept-most (c .before .before .before .before .before .name-groups .last .1 .1 .1 .0) (linksOf (s .args .links .now)), length-linksOf (s .args .links .now), s .pre .3)
+    omega (arith, c .before .before .keep .ensures .0, kept-most (c .before .before .before .before .before .name-groups .last .1 .1 .1 .0) (linksOf (s .args .links .now)), length-linksOf (s .args .links .now), s .pre .1)
 
 same-length : tie.Need-same-length
 same-length c = search needs
@@ -37,7 +37,7 @@ returns-2 c =
     let links = linksOf (s .args .links .now) in
     thins-accepted linkBytes _ _ _ _ _ _ (c .before .before .before .before .before .name-groups .last .1 .1 .1 .0) _ _
     (links-fit _ _ (omega (arith, c .before .before .before .before .before .before .before .if1 .left, length-linksOf (s .args .links .now))))
-    (kept-same (s .args .n) _ _ _ links (s .pre .1) (c .before .before .before .before .before .name-groups .ensures) (links-accepted (s .args .n) 0 links (s .pre .4)))
+    (kept-same (s .args .n) _ _ _ links (counts-accepted _ _ _ _ (s .pre .0) .few-bones) (c .before .before .before .before .before .name-groups .ensures) (links-accepted (s .args .n) 0 links (s .pre .2)))
     (c .before .before .keep .ensures .0) (c .before .before .keep .ensures .1)
 
 pub thin-table-spec : {M : Type 1} → statement M

@@ -3,11 +3,11 @@ use Prim.Native.Nat.{_/_}
 use mathlib.Core.Path.{sym, _∙_}
 use native.Mathlib.Omega.{arith}
 use lib.ListN.{length}
-use Rattle.pairs.specs.Links.{linksOf}
-use Rattle.pairs.proofs.LinksBytes.{length-linksOf, linksOf-short}
-use Rattle.pairs.proofs.LinksRows.{table-counted, table-proper, links-proper}
+use Rattle.links.specs.Links.{linksOf}
+use Rattle.links.proofs.LinksBytes.{length-linksOf, linksOf-short}
+use Rattle.links.proofs.LinksRows.{table-counted, table-proper, links-proper}
 use Rattle.cutting.specs.Calls.{linkBytes}
-use Rattle.cutting.proofs.Carried.{filled-alike}
+use Rattle.cutting.proofs.Carried.{counts-pass, filled-alike}
 use Rattle.cutting.proofs.Keeping.{thinning-core, thinning-stop, thins-alike, thins-refused}
 use borrow.Author.Needs.{needs}
 use Rattle.cutting.proofs.thin.thinning.Statement.{statement}
@@ -25,7 +25,7 @@ thin-table-requires c κs =
     let links = linksOf (a .links .now) in
     let accepted = sym (c .before .before .before .before .fill .ensures .0) ∙ c .before .before .enum-told .given .1 in
     let counted = table-counted (a .n) (a .k) _ links accepted in
-    (counted .some-bones, counted .few-bones, counted .low-threshold, omega (arith, counted .few-links, length-linksOf (a .links .now)), links-proper (a .n) 0 links (table-proper (a .n) (a .k) _ links accepted))
+    (counts-pass (a .n) (a .k) _ links accepted, omega (arith, counted .few-links, length-linksOf (a .links .now)), links-proper (a .n) 0 links (table-proper (a .n) (a .k) _ links accepted))
 
 enum-known-number : tie.Need-enum-known-number
 enum-known-number c = search needs

@@ -2,7 +2,7 @@
 -- Assumes nothing.
 use borrow.Author.Needs.{needs}
 use mathlib.Core.Path.{refl, sym}
-use Rattle.pairs.specs.Marks.{marked}
+use Rattle.joining.specs.Marks.{marked}
 use Rattle.flowing.proofs.ProbeSent.{unmarked-past}
 use Rattle.flowing.proofs.flow.is_marked.Statement.{statement}
 use Rattle.flowing.proofs.flow.is_marked.Tie as tie

@@ -8,7 +8,7 @@ use Rattle.flowing.proofs.Flowing.{leaves-sum}
 use mathlib.Core.Path.{_≡_, refl, sym, _∙_, ap, ap₂}
 use lib.ListN.{getD}
 use Rattle.meaning.specs.Count.{sum}
-use Rattle.pairs.specs.Marks.{marked}
+use Rattle.joining.specs.Marks.{marked}
 use Rattle.flowing.specs.Flow.{wayOut}
 use Rattle.flowing.proofs.flow.leaving.Statement.{statement}
 use Rattle.flowing.proofs.flow.leaving.Tie as tie

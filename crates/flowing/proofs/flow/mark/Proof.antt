@@ -8,7 +8,7 @@ use lib.Dec.{T}
 use Rattle.meaning.proofs.Tests.{neqb→ne}
 use lib.ListN.{length, getD, length-set}
 use mathlib.Core.Bool.{not}
-use Rattle.pairs.specs.Marks.{marked}
+use Rattle.joining.specs.Marks.{marked}
 use Rattle.flowing.specs.Flow.{unmarked}
 use Rattle.flowing.proofs.ProbeSent.{clear-next, clear-all}
 use Rattle.flowing.proofs.flow.mark.Statement.{statement}

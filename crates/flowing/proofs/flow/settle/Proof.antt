@@ -3,7 +3,7 @@
 use native.Mathlib.Omega.{arith}
 use borrow.Author.Needs.{needs}
 use Rattle.meaning.proofs.Tests.{eq→eqb}
-use Rattle.pairs.specs.Marks.{marked}
+use Rattle.joining.specs.Marks.{marked}
 use Rattle.flowing.proofs.ProbeSent.{unknown}
 use Rattle.flowing.proofs.flow.settle.Statement.{statement}
 use Rattle.flowing.proofs.flow.settle.Tie as tie

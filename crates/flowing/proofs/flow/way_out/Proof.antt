@@ -5,7 +5,7 @@ use native.Mathlib.Omega.{arith}
 use borrow.Author.Needs.{needs}
 use mathlib.Core.Path.{_≡_, sym, _∙_, ap, ap₂}
 use mathlib.Core.Bool.{Bool, cond}
-use Rattle.pairs.specs.Marks.{marked}
+use Rattle.joining.specs.Marks.{marked}
 use Rattle.flowing.specs.Flow.{wayOut}
 use Rattle.flowing.proofs.ProbeSent.{way-cases}
 use Rattle.flowing.proofs.flow.way_out.Statement.{statement}

@@ -3,7 +3,7 @@
 use native.Mathlib.Omega.{arith}
 use borrow.Author.Needs.{needs}
 use Rattle.meaning.proofs.Tests.{ne→neqb}
-use Rattle.pairs.specs.Marks.{marked}
+use Rattle.joining.specs.Marks.{marked}
 use Rattle.flowing.specs.Flow.{unmarked}
 use Rattle.flowing.proofs.ProbeSent.{moved-sends}
 use Rattle.flowing.proofs.sending.send.Statement.{statement}

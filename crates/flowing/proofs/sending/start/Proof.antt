@@ -4,7 +4,7 @@ use Prim.Native.Nat.{ℕ, _-_, _/_, _≤_, _<_, zero-le}
 use native.Mathlib.Omega.{arith}
 use borrow.Author.Needs.{needs}
 use Rattle.flowing.specs.Flow.{leftOf, waysOf}
-use Rattle.pairs.proofs.Filling.{stored-next}
+use Rattle.joining.proofs.Filling.{stored-next}
 use mathlib.Core.Path.{_≡_, _∙_}
 use lib.ListN.{length, getD, length-set}
 use Rattle.flowing.proofs.sending.start.Statement.{statement}

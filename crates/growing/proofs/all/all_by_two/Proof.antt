@@ -10,7 +10,7 @@ use lib.Dec.{T, T-not}
 use Rattle.meaning.proofs.Tests.{ne→neqb}
 use Rattle.meaning.proofs.Sets.{last-or-below}
 use Rattle.pairs.specs.Table.{held}
-use Rattle.pairs.specs.Marks.{marked}
+use Rattle.joining.specs.Marks.{marked}
 use Rattle.growing.specs.Grow.{steps, AllByTwo}
 use Rattle.growing.proofs.all.all_by_two.Statement.{statement}
 use Rattle.growing.proofs.all.all_by_two.Tie as tie

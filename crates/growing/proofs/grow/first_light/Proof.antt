@@ -13,7 +13,7 @@ use lib.Seq.{getD-set-same}
 use Rattle.meaning.specs.Count.{Bones}
 use Rattle.meaning.proofs.Tests.{eq→eqb, ne→neqb}
 use Rattle.pairs.specs.Table.{held}
-use Rattle.pairs.specs.Marks.{marked}
+use Rattle.joining.specs.Marks.{marked}
 use Rattle.growing.specs.Grow.{degree, Weighed}
 use Rattle.growing.specs.Members.{Members}
 use Rattle.growing.proofs.GrowEnds.{weighed-more, weighed-shut}
@@ -22,7 +22,7 @@ use Rattle.growing.proofs.grow.first_light.Tie as tie
 use Rattle.growing.proofs.grow.first_light.Reads as reads
 use Rattle.growing.proofs.grow.first_light.Lts as lts
 use Rattle.growing.proofs.members.degree_in.Reads as degree-in-reads
-use Rattle.pairs.proofs.numbers.bone.Reads as bone-reads
+use Rattle.joining.proofs.numbers.bone.Reads as bone-reads
 
 abbrev Inv-loop : tie.InvT-loop
 Inv-loop table who m free k degrees₀ i₀ degrees i =

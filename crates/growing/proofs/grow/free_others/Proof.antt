@@ -7,16 +7,16 @@ use native.Mathlib.Omega.{arith}
 use Rattle.meaning.specs.Count.{sum, count}
 use Rattle.meaning.specs.Heap.{pile}
 use Rattle.pairs.specs.Side.{heapOf}
-use Rattle.pairs.specs.Marks.{Filled}
+use Rattle.joining.specs.Marks.{Filled}
 use Rattle.growing.specs.Grow.{beside}
 use Rattle.meaning.proofs.Sums.{sum-next}
-use Rattle.pairs.proofs.Filling.{filled-start, filled-next, filled-end}
+use Rattle.joining.proofs.Filling.{filled-start, filled-next, filled-end}
 use Rattle.growing.proofs.grow.free_others.Statement.{statement}
 use Rattle.growing.proofs.grow.free_others.Tie as tie
 use Rattle.growing.proofs.grow.free_others.Reads as reads
 use Rattle.growing.proofs.grow.free_others.Lts as lts
 use Rattle.growing.proofs.grow.is_other.Reads as is-other-reads
-use Rattle.pairs.proofs.numbers.bone.Reads as bone-reads
+use Rattle.joining.proofs.numbers.bone.Reads as bone-reads
 
 abbrev Inv-loop : tie.InvT-loop
 Inv-loop names n p free₀ left₀ b₀ free left b =

@@ -2,14 +2,15 @@
 use Prim.Native.Nat.{ℕ}
 use mathlib.Core.Path.{refl, sym, _∙_, subst}
 use mathlib.Core.Bool.{not}
+use mathlib.Core.Logic.{⊎-elim}
 use native.Mathlib.Omega.{arith}
 use lib.Dec.{T, eqb, T-not}
 use lib.ListN.{replicate}
 use Rattle.meaning.specs.Heap.{stands}
 use Rattle.meaning.proofs.Heaps.{pile-intro}
 use Rattle.pairs.specs.Side.{heapOf}
-use Rattle.pairs.specs.Marks.{marked}
-use Rattle.pairs.proofs.Filling.{zeros}
+use Rattle.joining.specs.Marks.{marked}
+use Rattle.joining.proofs.Filling.{zeros}
 use Rattle.growing.specs.Grow.{seen}
 use Rattle.growing.proofs.Seen.{seen-intro, seen-small, seen-below, seen-own}
 use borrow.Author.Needs.{needs}
@@ -29,17 +30,17 @@ bone-requires c κs = search needs
 grow-pile-requires : tie.Need-grow-pile-requires
 unfolding stands heapOf
 grow-pile-requires c κs =
-    let a = c .before .before .before .before .before .before .before .before .before .args in
+    let a = c .before .before .before .before .before .before .before .before .args in
     let below = c .before .before .before .before .before .if2 .taken in
     let own = sym (c .before .before .before .bone .ensures .0) ∙ c .before .before .if3 .taken in (
-      (c .before .before .before .before .before .before .if1 .taken, refl, refl),
+      (c .before .before .before .before .before .before .if1 .taken, refl),
       (λ x h. unmarked x, pile-intro (a .n) (heapOf (a .names .now)) (a .p) (a .p) below own),
     )
 
 returns : tie.Need-returns
 unfolding heapOf
 returns c =
-    let a = c .before .before .before .before .before .before .before .before .before .before .args in
+    let a = c .before .before .before .before .before .before .before .before .before .args in
     let below = c .before .before .before .before .before .before .if2 .taken in
     let own = sym (c .before .before .before .before .bone .ensures .0) ∙ c .before .before .before .if3 .taken in
     let yes = seen-intro (a .n) (heapOf (a .names .now)) (a .p) (c .before .before .before .before .before .before .before .if1 .taken) below own in
@@ -48,18 +49,13 @@ returns c =
 returns-2 : tie.Need-returns-2
 unfolding heapOf
 returns-2 c =
-    let a = c .before .before .before .before .before .before .before .args in
-    (λ yes. absurd (c .if3 .left (c .before .bone .ensures .0 ∙ seen-own (a .n) (heapOf (a .names .now)) (a .p) yes)), λ _. (refl, refl, refl, refl, refl))
-
-returns-3 : tie.Need-returns-3
-returns-3 c =
-    let a = c .before .before .before .before .args in
-    (λ yes. absurd (omega (arith, c .if2 .left, seen-below (a .n) (heapOf (a .names .now)) (a .p) yes)), λ _. (refl, refl, refl, refl, refl))
-
-returns-4 : tie.Need-returns-4
-returns-4 c =
     let a = c .before .before .before .args in
-    (λ yes. absurd (omega (arith, c .if1 .left, seen-small (a .n) (heapOf (a .names .now)) (a .p) yes)), λ _. (refl, refl, refl, refl, refl))
+    let h = heapOf (a .names .now) in
+    let unseen : T (seen (a .n) h (a .p)) → ⊥ =
+    λ yes. ⊎-elim (λ t. t .4 .left (t .3 .ensures .0 ∙ seen-own (a .n) h (a .p) yes))
+    (⊎-elim (λ t. absurd (omega (arith, t .1 .left, seen-below (a .n) h (a .p) yes))) (λ t. absurd (omega (arith, t .left, seen-small (a .n) h (a .p) yes))))
+    (c .before .if1 .came) in
+    (λ yes. absurd (unseen yes), λ _. (refl, refl, refl, refl, refl))
 
 pub grow-spec : {M : Type 1} → statement M
 grow-spec =
@@ -69,6 +65,4 @@ grow-spec =
     bone-requires
     grow-pile-requires
     returns
-    returns-2
-    returns-3
-    returns-4)
+    returns-2)

@@ -1,20 +1,21 @@
 -- `growing::grow::grow_pile` meets its contract: by how the growth ends.
 -- Assumes nothing.
 use Prim.Native.Nat.{ℕ, _≤_, _<_}
-use mathlib.Core.Path.{_≡_, sym, _∙_, subst}
+use mathlib.Core.Path.{_≡_, _∙_, ap, subst}
 use mathlib.Core.Bool.{Bool, not}
+use mathlib.Core.List.{List}
 use native.Mathlib.Omega.{arith}
-use lib.Dec.{T, eqb, eqb→eq, not-T}
-use lib.ListN.{length-replicate}
+use lib.Dec.{T, not-T}
+use lib.ListN.{length, replicate, length-replicate, length-set}
 use Rattle.meaning.specs.Count.{Bones}
 use Rattle.meaning.specs.Heap.{pile, stands}
 use Rattle.meaning.proofs.Heaps.{pile-bone}
 use Rattle.pairs.specs.Table.{held}
 use Rattle.pairs.specs.Side.{heapOf}
-use Rattle.pairs.specs.Marks.{marked}
+use Rattle.joining.specs.Marks.{marked}
 use Rattle.growing.specs.Grow.{beside, Reached}
 use Rattle.pairs.proofs.TableHeld.{held-symmetric}
-use Rattle.growing.proofs.GrowEnds.{marks-as, beside-below, light-lone, known-alone, known-light, known-single, known-joined}
+use Rattle.growing.proofs.GrowEnds.{marks-as, marks-one, beside-below, light-lone, known-alone, known-light, known-single, known-joined}
 use Rattle.growing.proofs.GrowState.{beside-in}
 use borrow.Author.Needs.{needs}
 use Rattle.growing.proofs.grow.grow_pile.Statement.{statement}
@@ -23,11 +24,9 @@ use Rattle.growing.proofs.grow.grow_pile.Reads as reads
 use Rattle.growing.proofs.grow.grow_pile.Lts as lts
 use Rattle.growing.proofs.grow.lone_light.Reads as lone-light-reads
 use Rattle.growing.proofs.grow.free_others.Reads as free-others-reads
-use Rattle.growing.proofs.grow.mark_only.Reads as mark-only-reads
 use Rattle.growing.proofs.grow.name_joined.Reads as name-joined-reads
 use Rattle.growing.proofs.grow.spread.Reads as spread-reads
 use Rattle.growing.proofs.row.degree_of.Reads as degree-of-reads
-use Rattle.growing.proofs.grow.single.Reads as single-reads
 
 -- the pile, its bones, and that p is one of them
 abbrev pile-of : tie.Start → Bones
@@ -94,8 +93,9 @@ returns-2 c =
     let small = c .before .before .before .if2 .taken in
     let apart : T (beside (pile-of s) (s .args .p) (lone .result)) = subst T (marks-of f (lone .result)) (told .one small) in
     known-light (s .args .n) (held (s .args .table .now)) (s .args .k) (pile-of s) (s .args .p) (below-of s) (s .pre .0 .0) (standing s) _ _ (c .before .before .before .before .before .before .before .before .before .before .single .ensures)
-    (light-lone (s .args .n) (held (s .args .table .now)) (held-symmetric (s .args .table .now)) (s .args .k) (pile-of s) (s .args .p) (below-of s) _ (lone .result) _ (c .before .mark-only .ensures .long)
-    (marks-as (s .args .n) (λ x. eqb x (lone .result)) _ _ (λ x e. subst (λ (y : ℕ). y < s .args .n) (sym (eqb→eq x (lone .result) e)) (beside-below (s .args .n) (pile-of s) (s .args .p) (below-of s) (lone .result) apart)) (rest-of f) (c .before .mark-only .ensures))
+    (light-lone (s .args .n) (held (s .args .table .now)) (held-symmetric (s .args .table .now)) (s .args .k) (pile-of s) (s .args .p) (below-of s) _ (lone .result) _
+    (ap length (c .before .mark-only .ensures) ∙ length-set (replicate 128 0) (lone .result) 1 ∙ length-replicate {A = ℕ} 128 0)
+    (λ x. ap (λ (m : List ℕ). marked m x) (c .before .mark-only .ensures) ∙ marks-one (lone .result) small x)
     apart (noted ∙ told .noted small) (omega (arith, noted, told .light small)))
 
 returns-3 : tie.Need-returns-3

@@ -9,13 +9,13 @@ use Rattle.meaning.proofs.Tests.{eq→eqb, ne→neqb, both, left-of, right-of}
 use Rattle.meaning.proofs.Heaps.{pile-intro, pile-name}
 use Rattle.pairs.specs.Side.{heapOf}
 use Rattle.growing.specs.Grow.{beside}
-use Rattle.pairs.proofs.Filling.{cond-yes, cond-no}
+use Rattle.joining.proofs.Filling.{cond-yes, cond-no}
 use borrow.Author.Needs.{needs}
 use Rattle.growing.proofs.grow.is_other.Statement.{statement}
 use Rattle.growing.proofs.grow.is_other.Tie as tie
 use Rattle.growing.proofs.grow.is_other.Reads as reads
 use Rattle.growing.proofs.grow.is_other.Lts as lts
-use Rattle.pairs.proofs.numbers.bone.Reads as bone-reads
+use Rattle.joining.proofs.numbers.bone.Reads as bone-reads
 
 element-copy-out-bone : tie.Need-element-copy-out-bone
 element-copy-out-bone c = search needs

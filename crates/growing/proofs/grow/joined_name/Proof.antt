@@ -8,15 +8,15 @@ use Rattle.meaning.specs.Heap.{pile}
 use Rattle.meaning.proofs.Tests.{eq→eqb, ne→neqb, both, left-of, right-of}
 use Rattle.meaning.proofs.Heaps.{pile-intro, pile-name}
 use Rattle.pairs.specs.Side.{heapOf}
-use Rattle.pairs.specs.Marks.{marked}
+use Rattle.joining.specs.Marks.{marked}
 use Rattle.growing.specs.Grow.{joined}
-use Rattle.pairs.proofs.Filling.{cond-yes, cond-no}
+use Rattle.joining.proofs.Filling.{cond-yes, cond-no}
 use borrow.Author.Needs.{needs}
 use Rattle.growing.proofs.grow.joined_name.Statement.{statement}
 use Rattle.growing.proofs.grow.joined_name.Tie as tie
 use Rattle.growing.proofs.grow.joined_name.Reads as reads
 use Rattle.growing.proofs.grow.joined_name.Lts as lts
-use Rattle.pairs.proofs.numbers.bone.Reads as bone-reads
+use Rattle.joining.proofs.numbers.bone.Reads as bone-reads
 
 element-copy-out-bone : tie.Need-element-copy-out-bone
 element-copy-out-bone c = search needs

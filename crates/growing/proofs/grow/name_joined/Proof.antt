@@ -7,9 +7,9 @@ use native.Mathlib.Nat.{le-refl}
 use native.Mathlib.Omega.{arith}
 use Rattle.meaning.specs.Heap.{pile}
 use Rattle.pairs.specs.Side.{heapOf}
-use Rattle.pairs.specs.Marks.{marked, Filled}
+use Rattle.joining.specs.Marks.{marked, Filled}
 use Rattle.growing.specs.Grow.{joined}
-use Rattle.pairs.proofs.Filling.{filled-start, filled-next, filled-end}
+use Rattle.joining.proofs.Filling.{filled-start, filled-next, filled-end}
 use Rattle.growing.proofs.grow.name_joined.Statement.{statement}
 use Rattle.growing.proofs.grow.name_joined.Tie as tie
 use Rattle.growing.proofs.grow.name_joined.Reads as reads

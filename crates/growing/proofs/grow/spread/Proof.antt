@@ -2,7 +2,6 @@
 -- Assumes nothing.
 use Prim.Native.Nat.{ℕ, _-_, _≤_, _<_}
 use mathlib.Core.Path.{refl, sym, subst}
-use mathlib.Core.Bool.{false}
 use mathlib.Core.List.{List}
 use native.Mathlib.Nat.{le-refl}
 use native.Mathlib.Omega.{arith}
@@ -13,13 +12,13 @@ use Rattle.meaning.specs.Heap.{pile, stands}
 use Rattle.meaning.proofs.Heaps.{pile-bone}
 use Rattle.pairs.specs.Table.{held}
 use Rattle.pairs.specs.Side.{heapOf}
-use Rattle.growing.specs.Grow.{Spread, Measured, Reached}
+use Rattle.growing.specs.Grow.{Spread, Measured}
 use Rattle.growing.specs.Listing.{Ready}
 use Rattle.pairs.proofs.TableHeld.{held-symmetric}
-use Rattle.pairs.proofs.Filling.{zeros}
+use Rattle.joining.proofs.Filling.{zeros}
 use Rattle.growing.proofs.WaysListed.{ready-none}
 use Rattle.growing.proofs.GrowState.{out-fits, out-covers, spread-next, measured-next}
-use Rattle.growing.proofs.GrowEnds.{beside-below, spread-start, measured-start, light-spread, reached-light, reached-dark, reached-all}
+use Rattle.growing.proofs.GrowEnds.{beside-below, spread-start, measured-start, light-spread, reached-light, reached-dark, reached-stop, reached-all}
 use Rattle.growing.proofs.grow.spread.Statement.{statement}
 use Rattle.growing.proofs.grow.spread.Tie as tie
 
@@ -92,60 +91,54 @@ returns-3 c =
     let s = c .before .before .before .before .before .before .before .before .before .before .before .before .before .before .before in
     let l = c .before .before .before .before .before .before .before .before .before .before .before .before .loop in
     let v = c .before .choose in
-    reached-light (s .args .n) (held (s .args .table .now)) (held-symmetric (s .args .table .now)) (s .args .k) (pile-of s) (s .args .p) (below-of s) (v .ensures .0 .found (c .if3 .taken))
+    reached-stop (s .args .n) (held (s .args .table .now)) (held-symmetric (s .args .table .now)) (s .args .k) (pile-of s) (s .args .p) (below-of s) (v .result .light) (l .inv .0) (l .inv .1) (v .ensures .0)
 
-returns-4 : tie.Need-returns-4 Inv-loop μ-loop
-returns-4 c =
+weight-with-requires : tie.Need-weight-with-requires Inv-loop μ-loop
+weight-with-requires c κs =
     let s = c .before .before .before .before .before .before .before .before .before .before .before .before .before .before .before .before in
     let l = c .before .before .before .before .before .before .before .before .before .before .before .before .before .loop in
     let v = c .before .before .choose in
-    subst (λ (m : List ℕ). Reached (s .args .n) (held (s .args .table .now)) (s .args .k) (pile-of s) (s .args .p) m false (l .left) 0) (sym (v .ensures .0 .same (c .before .if3 .left)))
-    (reached-dark (s .args .n) (held (s .args .table .now)) (held-symmetric (s .args .table .now)) (s .args .k) (pile-of s) (s .args .p) (below-of s) (l .inv .0) (l .inv .1))
-
-out-with-requires : tie.Need-out-with-requires Inv-loop μ-loop
-out-with-requires c κs =
-    let s = c .before .before .before .before .before .before .before .before .before .before .before .before .before .before .before .before .before in
-    let l = c .before .before .before .before .before .before .before .before .before .before .before .before .before .before .loop in
-    let v = c .before .before .before .choose in
-    let isfree = v .ensures .0 .one (c .before .before .if3 .left) (c .before .if4 .left) in (
-      c .before .if4 .left,
+    let isfree = v .ensures .0 .one (c .before .if3 .left) in (
+      c .before .if3 .left,
       out-fits (held-symmetric (s .args .table .now)) (below-of s) (s .pre .0 .0) (l .inv .0) (l .out) (l .left) (l .inv .1) (v .result .bone) isfree,
       out-covers (held-symmetric (s .args .table .now)) (below-of s) (s .pre .0 .0) (l .inv .0) (l .out) (l .left) (l .inv .1) (v .result .bone) isfree,
     )
 
 element-write-free : tie.Need-element-write-free Inv-loop μ-loop
-element-write-free c = c .before .before .if4 .left
+element-write-free c = c .before .before .if3 .left
 
 sub-left : tie.Need-sub-left Inv-loop μ-loop
-sub-left c = omega (arith, c .before .before .before .before .before .before .before .before .before .before .before .before .before .before .loop-test .taken)
+sub-left c = omega (arith, c .before .before .before .before .before .before .before .before .before .before .before .before .before .loop-test .taken)
 
 add-row-requires-2 : tie.Need-add-row-requires-2 Inv-loop μ-loop
 add-row-requires-2 c κs =
-    let s = c .before .before .before .before .before .before .before .before .before .before .before .before .before .before .before .before .before .before .before in
-    let l = c .before .before .before .before .before .before .before .before .before .before .before .before .before .before .before .before .loop in
-    let v = c .before .before .before .before .before .choose in
-    ((s .pre .0 .0, beside-below (s .args .n) (pile-of s) (s .args .p) (below-of s) (v .result .bone) (l .inv .0 .others (v .result .bone) (v .ensures .0 .one (c .before .before .before .before .if3 .left) (c .before .before .before .if4 .left)))), record { long = l .inv .0 .ties-long; room = λ x. omega (arith, l .inv .0 .most x) })
+    let s = c .before .before .before .before .before .before .before .before .before .before .before .before .before .before .before .before .before .before in
+    let l = c .before .before .before .before .before .before .before .before .before .before .before .before .before .before .before .loop in
+    let v = c .before .before .before .before .choose in
+    let isfree = v .ensures .0 .one (c .before .before .before .if3 .left) in
+    ((s .pre .0 .0, beside-below (s .args .n) (pile-of s) (s .args .p) (below-of s) (v .result .bone) (l .inv .0 .others (v .result .bone) isfree)), record { long = l .inv .0 .ties-long; room = λ x. omega (arith, l .inv .0 .most x) })
 
 loop-less : tie.Need-loop-less Inv-loop μ-loop
-loop-less c = omega (arith, c .before .before .before .before .before .before .before .before .before .before .before .before .before .before .before .before .loop-test .taken)
+loop-less c = omega (arith, c .before .before .before .before .before .before .before .before .before .before .before .before .before .before .before .loop-test .taken)
 
 loop-again : tie.Need-loop-again Inv-loop μ-loop
 loop-again c =
-    let s = c .before .before .before .before .before .before .before .before .before .before .before .before .before .before .before .before .before .before .before .before in
-    let l = c .before .before .before .before .before .before .before .before .before .before .before .before .before .before .before .before .before .loop in
-    let v = c .before .before .before .before .before .before .choose in
-    let out = c .before .before .out-with in
+    let s = c .before .before .before .before .before .before .before .before .before .before .before .before .before .before .before .before .before .before .before in
+    let l = c .before .before .before .before .before .before .before .before .before .before .before .before .before .before .before .before .loop in
+    let v = c .before .before .before .before .before .choose in
+    let small = c .before .before .before .before .if3 .left in
+    let out = c .before .before .weight-with in
     let n = s .args .n in
     let w = held (s .args .table .now) in
     let ties = c .add-row2 .last .1 .1 .1 .0 in
     let grown = subst
     (λ (m : List ℕ). Spread n w (s .args .k) (pile-of s) (s .args .p) (set m (v .result .bone) 0) (s .args .degrees .now) ties × Measured n w (pile-of s) (set m (v .result .bone) 0) ties (out .result) (l .left - 1))
-    (sym (v .ensures .0 .same (c .before .before .before .before .before .if3 .left)))
-    (spread-next (held-symmetric (s .args .table .now)) (below-of s) (s .pre .0 .0) (l .inv .0) (l .out) (l .left) (l .inv .1) (v .result .bone) (v .ensures .0 .one (c .before .before .before .before .before .if3 .left) (c .before .before .before .before .if4 .left)) ties (c .add-row2 .ensures) (v .ensures .0 .joins (c .before .before .before .before .before .if3 .left) (c .before .before .before .before .if4 .left)), subst (λ (z : ℕ). Measured n w (pile-of s) (set (l .free) (v .result .bone) 0) ties z (l .left - 1)) (sym (out .ensures)) (measured-next (held-symmetric (s .args .table .now)) (below-of s) (s .pre .0 .0) (l .inv .0) (l .out) (l .left) (l .inv .1) (v .result .bone) (v .ensures .0 .one (c .before .before .before .before .before .if3 .left) (c .before .before .before .before .if4 .left)) ties (c .add-row2 .ensures))) in
+    (sym (v .ensures .0 .same (v .ensures .0 .dark small)))
+    (spread-next (held-symmetric (s .args .table .now)) (below-of s) (s .pre .0 .0) (l .inv .0) (l .out) (l .left) (l .inv .1) (v .result .bone) (v .ensures .0 .one small) ties (c .add-row2 .ensures) (v .ensures .0 .joins small), subst (λ (z : ℕ). Measured n w (pile-of s) (set (l .free) (v .result .bone) 0) ties z (l .left - 1)) (sym (out .ensures)) (measured-next (held-symmetric (s .args .table .now)) (below-of s) (s .pre .0 .0) (l .inv .0) (l .out) (l .left) (l .inv .1) (v .result .bone) (v .ensures .0 .one small) ties (c .add-row2 .ensures))) in
     (grown .0, grown .1, v .ensures .1, omega (arith, l .inv .3))
 
-returns-5 : tie.Need-returns-5 Inv-loop μ-loop
-returns-5 c =
+returns-4 : tie.Need-returns-4 Inv-loop μ-loop
+returns-4 c =
     let s = c .before .before .before .before in
     let l = c .before .loop in
     reached-dark (s .args .n) (held (s .args .table .now)) (held-symmetric (s .args .table .now)) (s .args .k) (pile-of s) (s .args .p) (below-of s) (l .inv .0) (l .inv .1)
@@ -165,11 +158,10 @@ spread-spec =
     returns-2
     choose-requires
     returns-3
-    returns-4
-    out-with-requires
+    weight-with-requires
     element-write-free
     sub-left
     add-row-requires-2
     loop-less
     loop-again
-    returns-5)
+    returns-4)

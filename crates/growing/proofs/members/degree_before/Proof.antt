@@ -10,13 +10,13 @@ use Rattle.meaning.specs.Count.{sum}
 use Rattle.meaning.proofs.Tests.{ne→neqb}
 use Rattle.meaning.proofs.Sums.{sum-next}
 use Rattle.pairs.specs.Table.{held}
-use Rattle.pairs.proofs.Filling.{cond-yes}
+use Rattle.joining.proofs.Filling.{cond-yes}
 use Rattle.growing.proofs.members.degree_before.Statement.{statement}
 use Rattle.growing.proofs.members.degree_before.Tie as tie
 use Rattle.growing.proofs.members.degree_before.Reads as reads
 use Rattle.growing.proofs.members.degree_before.Lts as lts
 use Rattle.growing.proofs.row.pair.Reads as pair-reads
-use Rattle.pairs.proofs.numbers.bone.Reads as bone-reads
+use Rattle.joining.proofs.numbers.bone.Reads as bone-reads
 
 abbrev Inv-loop : tie.InvT-loop
 Inv-loop table who m at b total₀ i₀ total i = (i ≤ at) × (total ≡ sum i (λ j. cond (not (eqb j at)) (held table (getD who at 0) (getD who j 0)) 0)) × (total ≤ i * 2 ^ 32)

@@ -11,7 +11,7 @@ use Rattle.meaning.specs.Count.{sum}
 use Rattle.meaning.proofs.Tests.{ne→neqb, eq→eqb, taut, so, _⊃_}
 use Rattle.meaning.proofs.Sums.{sum-next}
 use Rattle.pairs.specs.Table.{held}
-use Rattle.pairs.proofs.Filling.{cond-yes, cond-no}
+use Rattle.joining.proofs.Filling.{cond-yes, cond-no}
 use Rattle.growing.proofs.MembersListed.{members-degree}
 use Rattle.growing.proofs.members.degree_in.Statement.{statement}
 use Rattle.growing.proofs.members.degree_in.Tie as tie
@@ -19,7 +19,7 @@ use Rattle.growing.proofs.members.degree_in.Reads as reads
 use Rattle.growing.proofs.members.degree_in.Lts as lts
 use Rattle.growing.proofs.members.degree_before.Reads as degree-before-reads
 use Rattle.growing.proofs.row.pair.Reads as pair-reads
-use Rattle.pairs.proofs.numbers.bone.Reads as bone-reads
+use Rattle.joining.proofs.numbers.bone.Reads as bone-reads
 
 abbrev Inv-loop : tie.InvT-loop
 Inv-loop table who m at b total₀ i₀ total i = (at + 1 ≤ i) × (i ≤ m) × (total ≡ sum i (λ j. cond (not (eqb j at)) (held table (getD who at 0) (getD who j 0)) 0)) × (total ≤ i * 2 ^ 32)

@@ -8,7 +8,7 @@ use lib.Dec.{not-T}
 use Rattle.meaning.specs.Heap.{pile}
 use Rattle.meaning.proofs.Heaps.{pile-intro, pile-name}
 use Rattle.pairs.specs.Side.{heapOf}
-use Rattle.pairs.proofs.Filling.{cond-yes, cond-no}
+use Rattle.joining.proofs.Filling.{cond-yes, cond-no}
 use Rattle.growing.proofs.members.is_in.Statement.{statement}
 use Rattle.growing.proofs.members.is_in.Tie as tie
 

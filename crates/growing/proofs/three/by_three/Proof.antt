@@ -6,7 +6,7 @@ use lib.Dec.{leb, leb→le}
 use lib.ListN.{length-replicate}
 use Rattle.meaning.proofs.Tests.{holds}
 use Rattle.pairs.specs.Table.{held}
-use Rattle.pairs.specs.Marks.{marked}
+use Rattle.joining.specs.Marks.{marked}
 use Rattle.growing.proofs.Sending.{Passed, passed-start, passed-next, passed-end}
 use Rattle.growing.proofs.three.by_three.Statement.{statement}
 use Rattle.growing.proofs.three.by_three.Tie as tie

@@ -8,8 +8,8 @@ use lib.Dec.{T, eqb, T-not, not-T}
 use lib.ListN.{getD}
 use Rattle.meaning.proofs.Tests.{eq→eqb, ne→neqb, neqb→ne, both, left-of, right-of}
 use Rattle.pairs.specs.Table.{held}
-use Rattle.pairs.specs.Marks.{marked}
-use Rattle.pairs.proofs.Filling.{cond-yes, cond-no}
+use Rattle.joining.specs.Marks.{marked}
+use Rattle.joining.proofs.Filling.{cond-yes, cond-no}
 use Rattle.growing.specs.Grow.{beside}
 use Rattle.growing.specs.Three.{want}
 use Rattle.growing.proofs.three.want_of.Statement.{statement}

@@ -3,8 +3,8 @@
 use Prim.Native.Nat.{zero-le, _-_, _≤_}
 use native.Mathlib.Omega.{arith}
 use Rattle.pairs.specs.Table.{held}
-use Rattle.pairs.specs.Marks.{marked, Filled}
-use Rattle.pairs.proofs.Filling.{filled-start, filled-next, filled-end}
+use Rattle.joining.specs.Marks.{marked, Filled}
+use Rattle.joining.proofs.Filling.{filled-start, filled-next, filled-end}
 use Rattle.growing.specs.Three.{want}
 use Rattle.growing.proofs.three.wants_of.Statement.{statement}
 use Rattle.growing.proofs.three.wants_of.Tie as tie

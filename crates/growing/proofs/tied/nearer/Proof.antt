@@ -2,7 +2,7 @@
 use borrow.Author.Needs.{needs}
 use lib.Dec.{T, eqb}
 use Rattle.meaning.proofs.Tests.{eq→eqb}
-use Rattle.pairs.specs.Marks.{marked}
+use Rattle.joining.specs.Marks.{marked}
 use Rattle.growing.proofs.tied.nearer.Statement.{statement}
 use Rattle.growing.proofs.tied.nearer.Tie as tie
 

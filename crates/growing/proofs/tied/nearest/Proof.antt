@@ -2,7 +2,7 @@
 use Prim.Native.Nat.{_≤_, _<_, _-_, zero-le}
 use native.Mathlib.Omega.{arith}
 use lib.Dec.{T}
-use Rattle.pairs.specs.Marks.{marked}
+use Rattle.joining.specs.Marks.{marked}
 use Rattle.growing.proofs.tied.nearest.Statement.{statement}
 use Rattle.growing.proofs.tied.nearest.Tie as tie
 

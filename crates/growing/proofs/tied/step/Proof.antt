@@ -4,8 +4,8 @@ use Prim.Native.Nat.{zero-le, min}
 use native.Mathlib.Omega.{arith}
 use lib.ListN.{getD}
 use Rattle.meaning.proofs.Tests.{eq→eqb, ne→neqb}
-use Rattle.pairs.specs.Marks.{marked}
-use Rattle.pairs.proofs.Filling.{cond-yes, cond-no}
+use Rattle.joining.specs.Marks.{marked}
+use Rattle.joining.proofs.Filling.{cond-yes, cond-no}
 use borrow.Author.Needs.{needs}
 use Rattle.growing.proofs.tied.step.Statement.{statement}
 use Rattle.growing.proofs.tied.step.Tie as tie

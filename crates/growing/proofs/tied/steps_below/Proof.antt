@@ -7,7 +7,7 @@ use native.Mathlib.Omega.{arith}
 use lib.ListN.{getD}
 use Rattle.meaning.specs.Count.{sum}
 use Rattle.pairs.specs.Table.{held}
-use Rattle.pairs.specs.Marks.{marked}
+use Rattle.joining.specs.Marks.{marked}
 use Rattle.growing.specs.Grow.{beside}
 use Rattle.meaning.proofs.Sums.{sum-next}
 use Rattle.growing.proofs.GrowRows.{beside-other}

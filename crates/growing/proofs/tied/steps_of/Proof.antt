@@ -8,7 +8,7 @@ use native.Mathlib.Omega.{arith}
 use lib.ListN.{getD}
 use Rattle.meaning.specs.Count.{sum}
 use Rattle.pairs.specs.Table.{held}
-use Rattle.pairs.specs.Marks.{marked}
+use Rattle.joining.specs.Marks.{marked}
 use Rattle.growing.specs.Grow.{beside, steps}
 use Rattle.meaning.proofs.Sums.{sum-next}
 use Rattle.growing.proofs.GrowRows.{sum-part, beside-other, beside-self}

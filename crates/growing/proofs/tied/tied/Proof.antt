@@ -1,10 +1,13 @@
--- `growing::tied::tied` meets its contract, by the rule that applies to the bone returned.
+-- `growing::tied::tied` meets its contract, by the rule for the bone returned.
 -- Assumes nothing.
-use Prim.Native.Nat.{zero-le, _-_, _≤_}
-use mathlib.Core.Logic.{inl, inr}
+use Prim.Native.Nat.{zero-le, _*_, _-_, _≤_}
+use mathlib.Core.Path.{sym, _∙_}
+use mathlib.Core.Logic.{⊎-elim, inl, inr}
 use native.Mathlib.Omega.{arith}
-use Rattle.meaning.proofs.Tests.{eq→eqb}
-use Rattle.pairs.specs.Marks.{marked}
+use lib.Dec.{leb, leb→le}
+use lib.ListN.{getD}
+use Rattle.meaning.proofs.Tests.{eq→eqb, either, holds}
+use Rattle.joining.specs.Marks.{marked}
 use Rattle.growing.proofs.tied.tied.Statement.{statement}
 use Rattle.growing.proofs.tied.tied.Tie as tie
 use Rattle.growing.proofs.tied.tied.Reads as reads
@@ -22,31 +25,32 @@ loop-holds c = zero-le
 element-copy-out-if1 : tie.Need-element-copy-out-if1 Inv-loop μ-loop
 element-copy-out-if1 c = omega arith
 
-mul-tie : tie.Need-mul-tie Inv-loop μ-loop
-mul-tie c = omega arith
+mul-ties-enough : tie.Need-mul-ties-enough Inv-loop μ-loop
+mul-ties-enough c = omega arith
 
-element-copy-out-tie : tie.Need-element-copy-out-tie Inv-loop μ-loop
-element-copy-out-tie c = omega arith
+element-copy-out-ties-enough : tie.Need-element-copy-out-ties-enough Inv-loop μ-loop
+element-copy-out-ties-enough c = omega arith
+
+mul-ties-enough-2 : tie.Need-mul-ties-enough-2 Inv-loop μ-loop
+mul-ties-enough-2 c = omega arith
+
+element-copy-out-ties-enough-2 : tie.Need-element-copy-out-ties-enough-2 Inv-loop μ-loop
+element-copy-out-ties-enough-2 c = omega arith
+
+ties-enough-requires : tie.Need-ties-enough-requires Inv-loop μ-loop
+ties-enough-requires c κs = tt
 
 returns : tie.Need-returns Inv-loop μ-loop
 unfolding marked
-returns c = record { one = λ h. eq→eqb _ 1 (c .before .before .if1 .taken); tie = λ h. inl (c .if2 .taken) }
-
-mul-wide : tie.Need-mul-wide Inv-loop μ-loop
-mul-wide c = omega arith
-
-element-copy-out-wide : tie.Need-element-copy-out-wide Inv-loop μ-loop
-element-copy-out-wide c = omega arith
-
-wide-requires : tie.Need-wide-requires Inv-loop μ-loop
-wide-requires c κs = tt
-
-mul-if3 : tie.Need-mul-if3 Inv-loop μ-loop
-mul-if3 c = omega (arith, c .before .before .before .before .before .before .before .before .pre .1 (c .before .before .before .before .before .before .before .loop .v))
-
-returns-2 : tie.Need-returns-2 Inv-loop μ-loop
-unfolding marked
-returns-2 c = record { one = λ h. eq→eqb _ 1 (c .before .before .before .before .before .if1 .taken); tie = λ h. inr (omega (arith, c .if3 .taken, c .before .wide .ensures .0)) }
+returns c =
+    let a = c .before .before .before .before .before .before .before .before .args in
+    let v = c .before .before .before .before .before .before .before .loop .v in
+    let own = getD (a .ties .now) v 0 in
+    let degree = getD (a .degrees .now) v 0 in
+    record {
+      one = λ h. eq→eqb _ 1 (c .before .before .before .before .if1 .taken);
+      tie = λ h. ⊎-elim (λ t. inl (leb→le (a .k) own t)) (λ t. inr (leb→le degree (2 * own) t)) (either (leb (a .k) own) _ (holds (sym (c .before .ties-enough .ensures) ∙ c .if2 .taken)));
+    }
 
 add-v : tie.Need-add-v Inv-loop μ-loop
 add-v c = omega arith
@@ -57,8 +61,8 @@ loop-less c = omega arith
 loop-again : tie.Need-loop-again Inv-loop μ-loop
 loop-again c = omega arith
 
-returns-3 : tie.Need-returns-3 Inv-loop μ-loop
-returns-3 c = record { one = λ h. absurd (omega arith); tie = λ h. absurd (omega arith) }
+returns-2 : tie.Need-returns-2 Inv-loop μ-loop
+returns-2 c = record { one = λ h. absurd (omega arith); tie = λ h. absurd (omega arith) }
 
 pub tied-spec : {M : Type 1} → statement M
 tied-spec =
@@ -68,15 +72,13 @@ tied-spec =
     μ-loop
     loop-holds
     element-copy-out-if1
-    mul-tie
-    element-copy-out-tie
+    mul-ties-enough
+    element-copy-out-ties-enough
+    mul-ties-enough-2
+    element-copy-out-ties-enough-2
+    ties-enough-requires
     returns
-    mul-wide
-    element-copy-out-wide
-    wide-requires
-    mul-if3
-    returns-2
     add-v
     loop-less
     loop-again
-    returns-3)
+    returns-2)

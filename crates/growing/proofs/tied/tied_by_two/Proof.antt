@@ -4,7 +4,7 @@ use Prim.Native.Nat.{zero-le, _-_, _≤_}
 use native.Mathlib.Nat.{le-trans}
 use native.Mathlib.Omega.{arith}
 use Rattle.meaning.proofs.Tests.{eq→eqb}
-use Rattle.pairs.specs.Marks.{marked}
+use Rattle.joining.specs.Marks.{marked}
 use Rattle.growing.proofs.tied.tied_by_two.Statement.{statement}
 use Rattle.growing.proofs.tied.tied_by_two.Tie as tie
 

@@ -1,8 +1,8 @@
 -- `pairs::table::add_links` meets its contract. The invariant: all links added to the table as it came make what those from i on
 -- make of the table as it is; and those from i on are accepted.
 -- Assumes nothing.
-use Rattle.pairs.proofs.LinksRows.{link-accepted, links-here, links-next}
-use Rattle.pairs.proofs.LinksBytes.{linksOf-next, linksOf-end}
+use Rattle.links.proofs.LinksRows.{link-accepted, links-here, links-next}
+use Rattle.links.proofs.LinksBytes.{linksOf-read, linksOf-end}
 use Rattle.pairs.proofs.TableAdds.{tallied-next, tallied-none}
 use Prim.Native.Nat.{ℕ, _≤_, zero-le, _+_, _*_, _/_, _-_}
 use mathlib.Core.Path.{_≡_, refl, sym, _∙_, ap}
@@ -13,7 +13,7 @@ use lib.ListN.{length, drop}
 use denote.Ref.{now}
 use Rattle.meaning.specs.Judge.{first}
 use Rattle.meaning.specs.declared.Judged.the-variants.{Accepted}
-use Rattle.pairs.specs.Links.{linksOf, linksRows}
+use Rattle.links.specs.Links.{linksOf, linksRows}
 use Rattle.pairs.specs.Table.{tallied}
 use Rattle.pairs.proofs.table.add_links.Statement.{statement}
 use Rattle.pairs.proofs.table.add_links.Tie as tie
@@ -31,7 +31,7 @@ loop-holds : tie.Need-loop-holds Inv-loop μ-loop
 loop-holds c = (zero-le, c .before .pre, refl)
 
 link-at-requires : tie.Need-link-at-requires Inv-loop μ-loop
-link-at-requires c κs = omega arith
+link-at-requires c κs = search needs
 
 add-link-requires : tie.Need-add-link-requires Inv-loop μ-loop
 add-link-requires c κs =
@@ -39,7 +39,7 @@ add-link-requires c κs =
     let head = c .before .before .before .loop in
     let proper =
     link-accepted 128 (head .i) _
-    (links-here 128 (head .i) _ _ (linksOf-next (now (a .links)) (head .i) (omega arith) (c .before .link-at .ensures)) (head .inv .1)) in
+    (links-here 128 (head .i) _ _ (linksOf-read (now (a .links)) (head .i) _ (omega arith) (c .before .link-at .ensures)) (head .inv .1)) in
     (proper .first-end, proper .second-end)
 
 add-i : tie.Need-add-i Inv-loop μ-loop
@@ -52,7 +52,7 @@ loop-again : tie.Need-loop-again Inv-loop μ-loop
 loop-again c =
     let a = c .before .before .before .before .before .before .args in
     let head = c .before .before .before .before .loop in
-    let rest = linksOf-next (now (a .links)) (head .i) (omega arith) (c .before .before .link-at .ensures) in (
+    let rest = linksOf-read (now (a .links)) (head .i) _ (omega arith) (c .before .before .link-at .ensures) in (
       omega arith,
       sym (links-next 128 (head .i) _ _ rest (links-here 128 (head .i) _ _ rest (head .inv .1))) ∙ head .inv .1,
       head .inv .2

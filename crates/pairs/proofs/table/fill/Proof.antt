@@ -1,7 +1,7 @@
 -- `pairs::table::fill` meets its contract: the links are added where they are accepted. Assumes nothing.
 use mathlib.Core.Path.{refl, sym, _∙_}
 use Rattle.pairs.specs.Table.{filled}
-use Rattle.pairs.proofs.LinksRows.{links-proper, propers-more, table-counted, table-proper}
+use Rattle.links.proofs.LinksRows.{links-proper, propers-more, table-counted, table-proper}
 use borrow.Author.Needs.{needs}
 use Rattle.pairs.proofs.table.fill.Statement.{statement}
 use Rattle.pairs.proofs.table.fill.Tie as tie

@@ -3,7 +3,7 @@ use Prim.Native.Nat.{_+_, _*_, _≤_, _-_}
 use native.Mathlib.Omega.{arith}
 use borrow.Author.Needs.{needs}
 use lib.ListN.{getD, drop}
-use Rattle.reading.proofs.Frames.{pair-bound}
+use Rattle.frames.proofs.Frames.{pair-bound}
 use Rattle.reading.proofs.Walks.{Adding, adding-none, adding-more, sum-done, sum-broken}
 use Rattle.reading.proofs.frame.add_bytes.Statement.{statement}
 use Rattle.reading.proofs.frame.add_bytes.Tie as tie

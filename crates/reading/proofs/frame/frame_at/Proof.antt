@@ -1,32 +1,23 @@
+-- `frame::frame_at` meets its contract. Assumes nothing.
 use borrow.Author.Needs.{needs}
 use native.Mathlib.Omega.{arith}
 use lib.ListN.{drop, length-drop}
 use Rattle.reading.proofs.Walks.{no-frame, no-digits, frame-well, frame-found}
 use Rattle.reading.proofs.frame.frame_at.Statement.{statement}
 use Rattle.reading.proofs.frame.frame_at.Tie as tie
-use Rattle.reading.proofs.frame.frame_at.Reads as reads
-use Rattle.reading.proofs.frame.frame_at.Lts as lts
-use Rattle.reading.proofs.frame.kind_at.Reads as kind-at-reads
-use Rattle.reading.proofs.frame.size_at.Reads as size-at-reads
-use Rattle.reading.proofs.frame.sum_at.Reads as sum-at-reads
 
--- src/frame.rt:143:9
 size-at-requires : tie.Need-size-at-requires
 size-at-requires c κs = search needs
 
--- src/frame.rt:145:9
 returns : tie.Need-returns
 returns c = no-frame _ (c .before .size-at .ensures .none (c .if1 .taken))
 
--- src/frame.rt:151:9
 sum-at-requires : tie.Need-sum-at-requires
 sum-at-requires c κs = let a = c .before .before .before .args in omega (arith, length-drop (a .at) (a .text .now))
 
--- src/frame.rt:153:9
 returns-2 : tie.Need-returns-2
 returns-2 c = no-frame _ (no-digits _ (c .before .before .before .size-at .result) (c .before .sum-at .result) (omega arith) (c .before .before .before .size-at .ensures) (c .before .sum-at .ensures) (omega arith))
 
--- src/frame.rt:159:9
 kind-at-requires : tie.Need-kind-at-requires
 kind-at-requires c κs =
     let a = c .before .before .before .before .before .args in
@@ -34,7 +25,6 @@ kind-at-requires c κs =
     let sum = c .before .sum-at in
     frame-well (drop (a .at) (a .text .now)) (size .result) (sum .result) (omega arith) (size .ensures) (sum .ensures) (omega arith)
 
--- src/frame.rt:140:1
 returns-3 : tie.Need-returns-3
 returns-3 c =
     let a = c .before .before .before .before .before .before .args in

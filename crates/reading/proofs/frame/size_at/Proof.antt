@@ -4,7 +4,8 @@ use mathlib.Core.Path.{sym, _∙_}
 use native.Mathlib.Omega.{arith}
 use lib.ListN.{drop, length-drop}
 use Rattle.meaning.proofs.Tests.{holds}
-use Rattle.reading.proofs.Walks.{no-size, size-least, payload-most, kind-well, size-found, no-feed}
+use Rattle.frames.proofs.Characters.{payload-most}
+use Rattle.reading.proofs.Walks.{no-size, size-least, kind-well, size-found, feed-left, no-feed}
 use Rattle.reading.proofs.frame.size_at.Statement.{statement}
 use Rattle.reading.proofs.frame.size_at.Tie as tie
 
@@ -41,20 +42,31 @@ payload-requires c κs = search needs
 add-size : tie.Need-add-size
 add-size c = omega (arith, payload-most (c .before .before .kind-of .result))
 
+sub-feed-at : tie.Need-sub-feed-at
+sub-feed-at c = search needs
+
+part-feed-at-start : tie.Need-part-feed-at-start
+part-feed-at-start c = search needs
+
+part-feed-at-end : tie.Need-part-feed-at-end
+part-feed-at-end c = search needs
+
 feed-at-requires : tie.Need-feed-at-requires
-feed-at-requires c κs = (omega arith, omega (arith, payload-most (c .before .before .kind-of .result)))
+feed-at-requires c κs = search needs
 
 returns-3 : tie.Need-returns-3
 returns-3 c =
-    let a = c .before .before .before .before .before .before .before .before .before .args in
-    let k = c .before .before .before .before .kind-of in
-    size-found (a .text .now) (a .at) (k .result) (k .ensures) (omega arith) _ (omega arith) (holds (sym (c .before .feed-at .ensures) ∙ c .if3 .taken))
+    let a = c .before .before .before .before .before .before .before .before .before .before .args in
+    let k = c .before .before .before .before .before .kind-of in
+    let feed = feed-left (a .text .now) (a .at) _ (c .before .feed-at .result) (c .before .feed-at .ensures) in
+    size-found (a .text .now) (a .at) (k .result) (k .ensures) (omega arith) _ (omega arith) (holds (sym feed ∙ c .if3 .taken))
 
 returns-4 : tie.Need-returns-4
 returns-4 c =
-    let a = c .before .before .before .before .before .before .before .before .before .args in
-    let k = c .before .before .before .before .kind-of in
-    no-feed _ _ _ (λ w. omega (arith, kind-well (a .text .now) (a .at) (k .result) (k .ensures) w)) (c .before .feed-at .ensures) (c .if3 .left)
+    let a = c .before .before .before .before .before .before .before .before .before .before .args in
+    let k = c .before .before .before .before .before .kind-of in
+    let feed = feed-left (a .text .now) (a .at) _ (c .before .feed-at .result) (c .before .feed-at .ensures) in
+    no-feed _ _ _ (λ w. omega (arith, kind-well (a .text .now) (a .at) (k .result) (k .ensures) w)) feed (c .if3 .left)
 
 pub size-at-spec : {M : Type 1} → statement M
 size-at-spec =
@@ -69,6 +81,9 @@ size-at-spec =
     returns-2
     payload-requires
     add-size
+    sub-feed-at
+    part-feed-at-start
+    part-feed-at-end
     feed-at-requires
     returns-3
     returns-4)

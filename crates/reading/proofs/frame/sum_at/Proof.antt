@@ -1,3 +1,4 @@
+-- `frame::sum_at` meets its contract. Assumes nothing.
 use Prim.Native.Nat.{ℕ}
 use mathlib.Core.Path.{sym, subst}
 use lib.ListN.{drop}
@@ -5,25 +6,18 @@ use borrow.Author.Needs.{needs}
 use Rattle.reading.specs.Walk.{Summed}
 use Rattle.reading.proofs.frame.sum_at.Statement.{statement}
 use Rattle.reading.proofs.frame.sum_at.Tie as tie
-use Rattle.reading.proofs.frame.sum_at.Reads as reads
-use Rattle.reading.proofs.frame.sum_at.Lts as lts
-use Rattle.reading.proofs.frame.add_bytes.Reads as add-bytes-reads
 
--- src/frame.rt:134:9
 add-bytes-requires : tie.Need-add-bytes-requires
 add-bytes-requires c κs = search needs
 
--- src/frame.rt:134:9
 returns : tie.Need-returns
 returns c =
     let a = c .before .before .before .args in
     subst (λ (n : ℕ). Summed (drop (a .at) (a .text .now)) n (c .add-bytes .result)) (sym (c .before .if1 .taken)) (c .add-bytes .ensures)
 
--- src/frame.rt:136:5
 add-bytes-requires-2 : tie.Need-add-bytes-requires-2
 add-bytes-requires-2 c κs = search needs
 
--- src/frame.rt:129:1
 returns-2 : tie.Need-returns-2
 returns-2 c = search needs
 

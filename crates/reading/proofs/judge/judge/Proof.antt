@@ -1,30 +1,23 @@
+-- `judge::judge` meets its contract. Assumes nothing.
 use borrow.Author.Needs.{needs}
 use mathlib.Core.Path.{sym, _∙_}
 use native.Mathlib.Omega.{arith}
 use Rattle.reading.proofs.ReadsRows.{by-15, by-line, by-3, by-9, by-14, by-8, by-none}
 use Rattle.reading.proofs.judge.judge.Statement.{statement}
 use Rattle.reading.proofs.judge.judge.Tie as tie
-use Rattle.reading.proofs.judge.judge.Reads as reads
-use Rattle.reading.proofs.judge.judge.Lts as lts
-use Rattle.reading.proofs.judge.judge_lines.Reads as judge-lines-reads
 
--- src/judge.rt:107:9
 returns : tie.Need-returns
 returns c = let a = c .before .before .args in by-15 (a .text .now) (a .lent) (a .room) (omega arith)
 
--- src/judge.rt:109:9
 judge-lines-requires : tie.Need-judge-lines-requires
 judge-lines-requires c κs = search needs
 
--- src/judge.rt:111:28
 enum-known-found : tie.Need-enum-known-found
 enum-known-found c = search needs
 
--- src/judge.rt:112:24
 enum-known-found-2 : tie.Need-enum-known-found-2
 enum-known-found-2 c = search needs
 
--- src/judge.rt:114:17
 returns-2 : tie.Need-returns-2
 returns-2 c =
     let f = c .before .before in
@@ -32,7 +25,6 @@ returns-2 c =
     let e = sym (f .found2 .given .1) ∙ f .before .before .judge-lines .ensures in
     by-3 (a .text .now) (a .lent) (a .room) (omega arith) _ _ _ _ e (omega arith)
 
--- src/judge.rt:117:17
 returns-3 : tie.Need-returns-3
 returns-3 c =
     let f = c .before .before .before in
@@ -40,11 +32,9 @@ returns-3 c =
     let e = sym (f .found2 .given .1) ∙ f .before .before .judge-lines .ensures in
     by-9 (a .text .now) (a .lent) (a .room) (omega arith) _ _ _ _ e (omega arith) (omega arith)
 
--- src/judge.rt:119:23
 cast-if4 : tie.Need-cast-if4
 cast-if4 c = search needs
 
--- src/judge.rt:120:17
 returns-4 : tie.Need-returns-4
 returns-4 c =
     let f = c .before .before .before .before in
@@ -52,15 +42,12 @@ returns-4 c =
     let e = sym (f .found2 .given .1) ∙ f .before .before .judge-lines .ensures in
     by-14 (a .text .now) (a .lent) (a .room) (omega arith) _ _ _ _ e (omega arith) (omega arith) (omega arith)
 
--- src/judge.rt:122:23
 cast-if5 : tie.Need-cast-if5
 cast-if5 c = search needs
 
--- src/judge.rt:122:23
 mul-if5 : tie.Need-mul-if5
 mul-if5 c = search needs
 
--- src/judge.rt:123:17
 returns-5 : tie.Need-returns-5
 returns-5 c =
     let f = c .before .before .before .before .before in
@@ -68,13 +55,11 @@ returns-5 c =
     let e = sym (f .found2 .given .1) ∙ f .before .before .judge-lines .ensures in
     by-8 (a .text .now) (a .lent) (a .room) (omega arith) _ _ _ _ e (omega arith) (omega arith) (omega arith) (omega arith)
 
--- src/judge.rt:103:1
 returns-6 : tie.Need-returns-6
 returns-6 c =
     let a = c .before .before .before .before .before .before .args in
     by-line (a .text .now) (a .lent) (a .room) _ _ (omega arith) (sym (c .before .found .given .1) ∙ c .before .before .before .judge-lines .ensures)
 
--- src/judge.rt:103:1
 returns-7 : tie.Need-returns-7
 returns-7 c =
     let f = c .before .before .before .before .before in

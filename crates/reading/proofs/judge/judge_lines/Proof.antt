@@ -1,22 +1,17 @@
-use Prim.Native.Nat.{_≤_, _-_}
+-- `judge::judge_lines` meets its contract. Assumes nothing.
+use Prim.Native.Nat.{_-_}
 use mathlib.Core.Path.{_≡_, sym, _∙_}
 use native.Mathlib.Omega.{arith}
 use borrow.Author.Needs.{needs}
 use lib.ListN.{length, drop}
 use Rattle.meaning.specs.Judge.{first}
-use Rattle.reading.specs.declared.stage.Stage.the-variants.{Opening}
+use Rattle.stages.specs.declared.stage.Stage.the-variants.{Opening}
 use Rattle.reading.specs.Lines.{linesOf, lineRows}
 use Rattle.reading.specs.Reader.{read}
 use Rattle.reading.specs.Judging.{Small, readFrom}
 use Rattle.reading.proofs.Advances.{read-start, read-refused, read-open, read-end, ready}
 use Rattle.reading.proofs.judge.judge_lines.Statement.{statement}
 use Rattle.reading.proofs.judge.judge_lines.Tie as tie
-use Rattle.reading.proofs.judge.judge_lines.Reads as reads
-use Rattle.reading.proofs.judge.judge_lines.Lts as lts
-use Rattle.reading.proofs.frame.frame_at.Reads as frame-at-reads
-use Rattle.reading.proofs.judge.advance.Reads as advance-reads
-use Rattle.reading.proofs.judge.line_row.Reads as line-row-reads
-use Rattle.reading.proofs.stage.is_open.Reads as is-open-reads
 
 abbrev Inv-loop : tie.InvT-loop
 Inv-loop text s₀ s = Small text s × (read (first (lineRows Opening 0 (linesOf text))) (linesOf text) ≡ readFrom s (linesOf (drop (s .at) text)))
@@ -24,19 +19,15 @@ Inv-loop text s₀ s = Small text s × (read (first (lineRows Opening 0 (linesOf
 abbrev μ-loop : tie.MeasureT-loop
 μ-loop text s₀ s = length text - s .at
 
--- src/judge.rt:86:5
 loop-holds : tie.Need-loop-holds Inv-loop μ-loop
 loop-holds c = (omega arith, read-start _)
 
--- src/judge.rt:87:13
 frame-at-requires : tie.Need-frame-at-requires Inv-loop μ-loop
 frame-at-requires c κs = search needs
 
--- src/judge.rt:89:13
 line-row-requires : tie.Need-line-row-requires Inv-loop μ-loop
 line-row-requires c κs = (omega arith, c .frame-at .ensures)
 
--- src/judge.rt:91:13
 returns : tie.Need-returns Inv-loop μ-loop
 returns c =
     let l = c .before .before .before .before .before in
@@ -44,7 +35,6 @@ returns c =
     let s = l .loop .s in
     sym (l .loop .inv .1 ∙ read-refused s (linesOf (drop (s .at) text)) (c .before .line-row .result) (s .line) (c .before .line-row .ensures .refused (omega arith)))
 
--- src/judge.rt:93:9
 advance-requires : tie.Need-advance-requires Inv-loop μ-loop
 advance-requires c κs =
     let l = c .before .before .before .before .before in
@@ -52,11 +42,9 @@ advance-requires c κs =
     let s = l .loop .s in
     ready text s (c .before .before .frame-at .result) (c .before .line-row .result) (l .loop .inv .0) (c .before .before .frame-at .ensures) (c .before .line-row .ensures) (omega arith)
 
--- src/judge.rt:86:5
 loop-less : tie.Need-loop-less Inv-loop μ-loop
 loop-less c = omega arith
 
--- src/judge.rt:86:5
 loop-again : tie.Need-loop-again Inv-loop μ-loop
 loop-again c =
     let l = c .before .before .before .before .before .before in
@@ -64,11 +52,9 @@ loop-again c =
     let s = l .loop .s in
     (c .advance .ensures .small, l .loop .inv .1 ∙ c .advance .ensures .same)
 
--- src/judge.rt:96:8
 is-open-requires : tie.Need-is-open-requires Inv-loop μ-loop
 is-open-requires c κs = search needs
 
--- src/judge.rt:97:9
 returns-2 : tie.Need-returns-2 Inv-loop μ-loop
 returns-2 c =
     let l = c .before .before .before .before in
@@ -76,7 +62,6 @@ returns-2 c =
     let s = l .loop .s in
     sym (l .loop .inv .1 ∙ read-open text s (omega arith) (sym (c .before .is-open .ensures) ∙ c .if3 .taken))
 
--- src/judge.rt:81:1
 returns-3 : tie.Need-returns-3 Inv-loop μ-loop
 returns-3 c =
     let l = c .before .before .before .before in

@@ -1,3 +1,4 @@
+-- `judge::line_row` meets its contract. Assumes nothing.
 use borrow.Author.Needs.{needs}
 use native.Mathlib.Omega.{arith}
 use lib.ListN.{drop, length-drop}
@@ -5,16 +6,10 @@ use Prim.Native.Nat.{_<_}
 use mathlib.Core.Path.{sym, _∙_}
 use borrow.Author.Tests.{not-true, not-false}
 use Rattle.reading.proofs.Walks.{size-of, well-digits, well-room}
-use Rattle.reading.proofs.Stages.{follows-not, follows-yes}
-use Rattle.reading.proofs.Judging.{row-16, row-17, row-18, row-19, line-refused, line-passed}
+use Rattle.reading.proofs.Judging.{follows-not, follows-yes, row-16, row-17, row-18, row-19, line-refused, line-passed}
 use Rattle.reading.proofs.judge.line_row.Statement.{statement}
 use Rattle.reading.proofs.judge.line_row.Tie as tie
-use Rattle.reading.proofs.judge.line_row.Reads as reads
-use Rattle.reading.proofs.judge.line_row.Lts as lts
-use Rattle.reading.proofs.frame.number_at.Reads as number-at-reads
-use Rattle.reading.proofs.stage.may_follow.Reads as may-follow-reads
 
--- src/judge.rt:33:9
 returns : tie.Need-returns
 returns c =
     let s = c .before .before .before in
@@ -24,7 +19,6 @@ returns c =
     line-refused cs (a .stage) (a .line) 16 (omega arith)
     (row-16 cs (a .stage) (a .line) (omega (arith, length-drop (a .at) (a .text .now))) (f .none (c .if1 .taken)))
 
--- src/judge.rt:36:9
 returns-2 : tie.Need-returns-2
 returns-2 c =
     let s = c .before .before .before .before .before in
@@ -35,11 +29,9 @@ returns-2 c =
     line-refused cs (a .stage) (a .line) 17 (omega arith)
     (row-17 cs (f .well some) (a .stage) (a .line) (λ e. omega (arith, f .sum some)))
 
--- src/judge.rt:39:9
 may-follow-requires : tie.Need-may-follow-requires
 may-follow-requires c κs = search needs
 
--- src/judge.rt:40:9
 returns-3 : tie.Need-returns-3
 returns-3 c =
     let s = c .before .before .before .before .before .before .before in
@@ -51,7 +43,6 @@ returns-3 c =
     (row-18 cs (f .well some) (a .stage) (a .line) (omega (arith, f .sum some))
     (follows-not (a .stage) (a .f .kind) _ (c .before .may-follow .result) (c .before .may-follow .ensures) (f .kind some) (not-true _ (c .if3 .taken))))
 
--- src/judge.rt:43:12
 number-at-requires : tie.Need-number-at-requires
 number-at-requires c κs =
     let s = c .before .before .before .before .before .before .before .before in
@@ -63,11 +54,9 @@ number-at-requires c κs =
     let e = size-of cs 6 (sym (f .kind some) ∙ c .if4 .taken) in
     (omega (arith, well-room (a .text .now) (a .at) w), well-digits cs w 1 (omega arith), well-digits cs w 2 (omega arith))
 
--- src/judge.rt:43:12
 cast-if5 : tie.Need-cast-if5
 cast-if5 c = search needs
 
--- src/judge.rt:44:13
 returns-4 : tie.Need-returns-4
 returns-4 c =
     let s = c .before .before .before .before .before .before .before .before .before .before in
@@ -80,7 +69,6 @@ returns-4 c =
     line-refused cs (a .stage) (a .line) 19 (omega arith)
     (row-19 cs w (a .stage) (a .line) (omega (arith, f .sum some)) order (sym (f .kind some) ∙ c .before .before .if4 .taken) (λ e. omega (arith, c .if5 .taken)))
 
--- src/judge.rt:28:1
 returns-5 : tie.Need-returns-5
 returns-5 c =
     let s = c .before .before .before .before .before .before .before .before .before .before in
@@ -92,7 +80,6 @@ returns-5 c =
     let order = follows-yes (a .stage) (a .f .kind) _ (c .before .before .before .before .may-follow .result) (c .before .before .before .before .may-follow .ensures) (f .kind some) (not-false _ (c .before .before .before .if3 .left)) in
     line-passed cs (a .stage) (a .line) (record { well = w; sum = omega (arith, f .sum some); order = order; count = λ e. omega (arith, c .if5 .left) })
 
--- src/judge.rt:28:1
 returns-6 : tie.Need-returns-6
 returns-6 c =
     let s = c .before .before .before .before .before .before .before .before in

@@ -1,3 +1,4 @@
+-- `store::line_after` meets its contract. Assumes nothing.
 use borrow.Author.Needs.{needs}
 use native.Mathlib.Omega.{arith}
 use lib.ListN.{drop}
@@ -5,20 +6,13 @@ use mathlib.Core.Path.{sym}
 use Rattle.reading.proofs.Walks.{size-of, well-room}
 use Rattle.reading.proofs.store.line_after.Statement.{statement}
 use Rattle.reading.proofs.store.line_after.Tie as tie
-use Rattle.reading.proofs.store.line_after.Reads as reads
-use Rattle.reading.proofs.store.line_after.Lts as lts
-use Rattle.reading.proofs.frame.kind_at.Reads as kind-at-reads
-use Rattle.reading.proofs.frame.payload.Reads as payload-reads
 
--- src/store.rt:25:23
 kind-at-requires : tie.Need-kind-at-requires
 kind-at-requires c κs = c .before .pre
 
--- src/store.rt:24:15
 payload-requires : tie.Need-payload-requires
 payload-requires c κs = search needs
 
--- src/store.rt:24:15
 add-result : tie.Need-add-result
 add-result c =
     let s = c .before .before .before in
@@ -26,7 +20,6 @@ add-result c =
     let cs = drop (a .at) (a .text .now) in
     omega (arith, well-room (a .text .now) (a .at) (s .pre), size-of cs (c .before .kind-at .result) (sym (c .before .kind-at .ensures)))
 
--- src/store.rt:24:10
 mul-result : tie.Need-mul-result
 mul-result c =
     let s = c .before .before .before in
@@ -34,7 +27,6 @@ mul-result c =
     let cs = drop (a .at) (a .text .now) in
     omega (arith, well-room (a .text .now) (a .at) (s .pre), size-of cs (c .before .kind-at .result) (sym (c .before .kind-at .ensures)))
 
--- src/store.rt:24:5
 add-result-2 : tie.Need-add-result-2
 add-result-2 c =
     let s = c .before .before .before in
@@ -42,7 +34,6 @@ add-result-2 c =
     let cs = drop (a .at) (a .text .now) in
     omega (arith, well-room (a .text .now) (a .at) (s .pre), size-of cs (c .before .kind-at .result) (sym (c .before .kind-at .ensures)))
 
--- src/store.rt:24:5
 add-result-3 : tie.Need-add-result-3
 add-result-3 c =
     let s = c .before .before .before in
@@ -50,7 +41,6 @@ add-result-3 c =
     let cs = drop (a .at) (a .text .now) in
     omega (arith, well-room (a .text .now) (a .at) (s .pre), size-of cs (c .before .kind-at .result) (sym (c .before .kind-at .ensures)))
 
--- src/store.rt:20:1
 returns : tie.Need-returns
 returns c =
     let s = c .before .before .before in

@@ -10,7 +10,7 @@ use Rattle.meaning.specs.Judge.{first}
 use Rattle.meaning.specs.Heap.{Cut, left}
 use Rattle.pairs.specs.Side.{heapOf}
 use Rattle.pairs.specs.Table.{held}
-use Rattle.pairs.proofs.LinksRows.{never-both}
+use Rattle.links.proofs.LinksRows.{never-both}
 use Rattle.cuts.specs.Record.{entrySize, cutsIn, cutsOf}
 use Rattle.replay.specs.Rows.{entriesRows}
 use Rattle.cuts.proofs.Cuts.{cuts-start, cuts-next, cuts-end}

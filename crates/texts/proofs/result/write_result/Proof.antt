@@ -44,7 +44,7 @@ use denote.Exit.{yes}
 use Rattle.meaning.specs.declared.Link.{Link}
 use Rattle.meaning.specs.declared.Judged.{Judged}
 use Rattle.meaning.specs.Judge.{refuse, first as first-of}
-use Rattle.pairs.specs.Links.{tableRows}
+use Rattle.links.specs.Links.{tableRows}
 use Rattle.placed.specs.Records.{firstOf}
 use Rattle.pairs.specs.Table.{held, filled}
 use Rattle.placed.proofs.RecordsLink.{R, J, told, IsJudged, typed-judged, made-judged}
@@ -59,9 +59,10 @@ use Rattle.lent.proofs.fill_records.Symbol.{name as #fill-records}
 use Rattle.lent.proofs.fill_records.Met as fill-thm
 use Rattle.replay.specs.Rows.{recordRows}
 use Rattle.cutting.proofs.Judged.{judged-fits}
-use Rattle.texts.specs.declared.Written.{Written}
-use Rattle.texts.specs.Writers.{resultText, resultRows, Writes}
-use Rattle.texts.proofs.WritesAnswer.{Wn, typed-held}
+use Rattle.lines.specs.declared.Written.{Written}
+use Rattle.lines.specs.Writing.{Writes}
+use Rattle.texts.specs.Writers.{resultText, resultRows}
+use Rattle.lines.proofs.WritesAnswer.{Wn, typed-held}
 use Rattle.texts.proofs.WritesResult.{judged-result}
 use Rattle.texts.proofs.result.result_judged as core
 use Rattle.texts.proofs.result.result_judged.Symbol as core-def

@@ -57,15 +57,16 @@ use Rattle.reading.proofs.reader.read as rea
 use Rattle.reading.proofs.reader.read.Symbol as rea-def
 use Rattle.reading.proofs.reader.read.Symbol.{name as #read}
 use Rattle.reading.proofs.reader.read.Met as rea-thm
-use Rattle.texts.specs.declared.Written.{Written}
-use Rattle.texts.specs.Writers.{inputText, inputRows, Writes}
-use Rattle.texts.proofs.Written as Wr
-use Rattle.texts.proofs.Written.Laws as Wr′
-use Rattle.texts.proofs.WritesAnswer.{Wn}
-use Rattle.texts.proofs.input.write_input as wri
-use Rattle.texts.proofs.input.write_input.Symbol as wri-def
-use Rattle.texts.proofs.input.write_input.Symbol.{name as #write-input}
-use Rattle.texts.proofs.input.write_input.Met as wri-thm
+use Rattle.lines.specs.declared.Written.{Written}
+use Rattle.lines.specs.Writing.{Writes}
+use Rattle.inputs.specs.Inputs.{inputText, inputRows}
+use Rattle.lines.proofs.Written as Wr
+use Rattle.lines.proofs.Written.Laws as Wr′
+use Rattle.lines.proofs.WritesAnswer.{Wn}
+use Rattle.inputs.proofs.input.write_input as wri
+use Rattle.inputs.proofs.input.write_input.Symbol as wri-def
+use Rattle.inputs.proofs.input.write_input.Symbol.{name as #write-input}
+use Rattle.inputs.proofs.input.write_input.Met as wri-thm
 use Rattle.timed.specs.Again.{linkSpace as links₀, recordSpace as space₀, Again}
 use Rattle.lent.proofs.Locals.{localTy, here, OwnMut, OwnShared, Back, lends-mut, mut-back, lends-shared, shared-room, repeat-typed, lies-repeat, big-lit}
 use Rattle.timed.proofs.again.again.Key.{name as #again}
@@ -218,4 +219,4 @@ again-spec 𝓤 H 𝓜 𝓖 𝓡 =
     (λ κs. (slice-vals, (slice-vals, tt))) (λ κs. (shr-slice-tells (named 0) (κs .0) u8, (mut-slice-tells (named 1) (κs .1 .0) u8, tt)))
     (λ κs qs bounds a g are. via 𝓤 _ (fst∗ 𝓤 _ (emp 𝓤)) (walk 𝓤 H (𝓖 .A) W (𝓜 .mem) (𝓡 .run) (κs .0) (κs .1 .0) (qs .0) (qs .1 .0) (a .0) (a .1 .0) (are .0 .0 .1) (are .1 .0 .0 .1) 𝓣
     (cited 𝓤 H (Read 𝓤 H (𝓖 .A) (𝓜 .mem) (𝓡 .run)) 𝓜 𝓡 code.env #read rea-def.routine code.calls-reading·reader·read (rea-thm.met 𝓤 H 𝓜 𝓖 𝓡))
-    (cited 𝓤 H (Write 𝓤 H (𝓖 .A) (𝓜 .mem) (𝓡 .run)) 𝓜 𝓡 code.env #write-input wri-def.routine code.calls-texts·input·write-input (wri-thm.met 𝓤 H 𝓜 𝓖 𝓡))))))
+    (cited 𝓤 H (Write 𝓤 H (𝓖 .A) (𝓜 .mem) (𝓡 .run)) 𝓜 𝓡 code.env #write-input wri-def.routine code.calls-inputs·input·write-input (wri-thm.met 𝓤 H 𝓜 𝓖 𝓡))))))

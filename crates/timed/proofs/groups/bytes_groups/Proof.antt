@@ -4,7 +4,7 @@ use mathlib.Core.Path.{_≡_, refl, subst}
 use native.Mathlib.Omega.{arith}
 use borrow.Author.Needs.{needs}
 use lib.ListN.{length}
-use Rattle.pairs.specs.Links.{whole, linksOf}
+use Rattle.links.specs.Links.{whole, linksOf}
 use Rattle.timed.specs.Groups.{Repeated}
 use Rattle.timed.proofs.Repeats.{none-yet, once-more}
 use Rattle.timed.proofs.groups.bytes_groups.Statement.{statement}

@@ -1,5 +1,5 @@
 -- `timed::groups::link_in` meets its contract. Assumes nothing.
-use Rattle.pairs.specs.Links.{linkAt}
+use Rattle.links.specs.Links.{linkAt}
 use borrow.Author.Needs.{needs}
 use Rattle.timed.proofs.groups.link_in.Statement.{statement}
 use Rattle.timed.proofs.groups.link_in.Tie as tie

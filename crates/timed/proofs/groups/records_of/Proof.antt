@@ -4,7 +4,7 @@ use mathlib.Core.Path.{_≡_, refl, _∙_, subst}
 use native.Mathlib.Omega.{arith}
 use borrow.Author.Needs.{needs}
 use lib.ListN.{length, take, length-set}
-use Rattle.pairs.specs.Links.{linksOf}
+use Rattle.links.specs.Links.{linksOf}
 use Rattle.timed.specs.Groups.{recordsOf}
 use Rattle.timed.proofs.Repeats.{record-next}
 use Rattle.timed.proofs.groups.records_of.Statement.{statement}

@@ -10,7 +10,7 @@ use Rattle.meaning.specs.Heap.{pile}
 use Rattle.meaning.proofs.Tests.{eq→eqb}
 use Rattle.meaning.proofs.Heaps.{pile-intro, pile-bone, pile-name}
 use Rattle.pairs.specs.Side.{heapOf}
-use Rattle.pairs.specs.Marks.{marked}
+use Rattle.joining.specs.Marks.{marked}
 use Rattle.weighing.proofs.Bits.{bit-one, bit-nought}
 use Rattle.weighing.proofs.moved.bit.Statement.{statement}
 use Rattle.weighing.proofs.moved.bit.Tie as tie

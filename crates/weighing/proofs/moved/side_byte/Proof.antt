@@ -5,7 +5,7 @@ use Prim.Native.Nat.{_*_}
 use borrow.Author.Needs.{needs}
 use Rattle.meaning.specs.Heap.{pile}
 use Rattle.pairs.specs.Side.{heapOf}
-use Rattle.pairs.specs.Marks.{marked}
+use Rattle.joining.specs.Marks.{marked}
 use Rattle.weighing.specs.Scan.{bitOf}
 use Rattle.weighing.proofs.Bits.{byte-from}
 use Rattle.weighing.proofs.moved.side_byte.Statement.{statement}

@@ -8,9 +8,9 @@ use lib.ListN.{length, getD, length-set}
 use Rattle.meaning.specs.Heap.{pile}
 use Rattle.meaning.proofs.Heaps.{pile-bone}
 use Rattle.pairs.specs.Side.{heapOf}
-use Rattle.pairs.specs.Marks.{marked}
+use Rattle.joining.specs.Marks.{marked}
 use Rattle.weighing.specs.Scan.{byteOf, bitOf}
-use Rattle.pairs.proofs.Filling.{stored-next}
+use Rattle.joining.proofs.Filling.{stored-next}
 use Rattle.weighing.proofs.Bits.{side-bits}
 use Rattle.weighing.proofs.moved.side_of.Statement.{statement}
 use Rattle.weighing.proofs.moved.side_of.Tie as tie

@@ -5,6 +5,7 @@ use mathlib.Core.Path.{_≡_, sym, _∙_, ap, subst, subst₂}
 use mathlib.Core.Bool.{true, false, cond}
 use mathlib.Core.List.{List}
 use native.Mathlib.Omega.{arith}
+use borrow.Author.Tests.{ltb-true, ltb-false}
 use lib.Dec.{leb}
 use lib.ListN.{getD, set, replicate}
 use Rattle.meaning.specs.Count.{Bones, count}
@@ -13,7 +14,7 @@ use Rattle.meaning.proofs.Heaps.{pile-bone}
 use Rattle.pairs.specs.Table.{held}
 use Rattle.pairs.specs.Side.{heapOf}
 use Rattle.growing.specs.Blocks.{inBlock, cross, butFor}
-use Rattle.pairs.specs.Marks.{marked, Grown}
+use Rattle.joining.specs.Marks.{marked, Grown}
 use Rattle.weighing.specs.Scan.{Picked, Passed}
 use Rattle.pairs.proofs.TableHeld.{held-symmetric}
 use Rattle.weighing.proofs.Scanning.{State}
@@ -136,28 +137,31 @@ loop-holds c =
 
 returns-2 : tie.Need-returns-2 Inv-loop μ-loop
 returns-2 c =
-    let s = c .before .before .before .before .before .before .before .before .before .before .before .before .before .before .before .before in
-    let l = c .before .before .loop in
-    passed-light (given s) (l .free) (l .attach) (l .next) (l .last) (l .u) (l .out) (l .inv) (c .before .loop-test .taken) (c .if2 .taken)
+    let s = c .before .before .before .before .before .before .before .before .before .before .before .before .before .before .before .before .before in
+    let l = c .before .before .before .loop in
+    passed-light (given s) (l .free) (l .attach) (l .next) (l .last) (l .u) (l .out) (l .inv) (c .before .before .loop-test .taken) (ltb-true _ _ (sym (c .before .is-short .ensures) ∙ c .if2 .taken))
+
+is-short-requires : tie.Need-is-short-requires Inv-loop μ-loop
+is-short-requires c κs = tt
 
 join-requires : tie.Need-join-requires Inv-loop μ-loop
 join-requires c κs =
-    let l = c .before .before .before .before .loop in
-    let s = c .before .before .before .before .before .before .before .before .before .before .before .before .before .before .before .before .before .before in
-    (c .before .before .before .loop-test .taken, omega (arith, given s .below (l .last) (l .inv .gone .bone), given s .most))
+    let l = c .before .before .before .before .before .loop in
+    let s = c .before .before .before .before .before .before .before .before .before .before .before .before .before .before .before .before .before .before .before in
+    (c .before .before .before .before .loop-test .taken, omega (arith, given s .below (l .last) (l .inv .gone .bone), given s .most))
 
 take-requires-2 : tie.Need-take-requires-2 Inv-loop μ-loop
 take-requires-2 c κs =
-    let l = c .before .before .before .before .before .before .before .before .loop in
-    let s = c .before .before .before .before .before .before .before .before .before .before .before .before .before .before .before .before .before .before .before .before .before .before in
-    ((s .pre .0 .0, c .before .before .before .before .before .before .before .loop-test .taken), (name-small (given s), state-room (l .inv .state)))
+    let l = c .before .before .before .before .before .before .before .before .before .loop in
+    let s = c .before .before .before .before .before .before .before .before .before .before .before .before .before .before .before .before .before .before .before .before .before .before .before in
+    ((s .pre .0 .0, c .before .before .before .before .before .before .before .before .loop-test .taken), (name-small (given s), state-room (l .inv .state)))
 
 -- after one more block was taken: the state before, the marks and the names that are next
 abbrev At : tie.After-take2 Inv-loop μ-loop → tie.At-loop Inv-loop μ-loop
-At t = t .before .before .before .before .before .before .before .before .before
+At t = t .before .before .before .before .before .before .before .before .before .before
 
 abbrev Start-of : tie.After-take2 Inv-loop μ-loop → tie.Start Inv-loop μ-loop
-Start-of t = t .before .before .before .before .before .before .before .before .before .before .before .before .before .before .before .before .before .before .before .before .before .before .before
+Start-of t = t .before .before .before .before .before .before .before .before .before .before .before .before .before .before .before .before .before .before .before .before .before .before .before .before
 
 abbrev attach-next : tie.After-take2 Inv-loop μ-loop → List ℕ
 attach-next t = t .take2 .last .1 .1 .1 .1 .1 .1 .1 .0
@@ -170,7 +174,7 @@ named t =
 state-next : (t : tie.After-take2 Inv-loop μ-loop) → let s = Start-of t in State (s .args .n) (held (s .args .table .now)) (s .args .k) (S-of s) (heapOf (s .args .block .now)) (set (At t .loop .free) (At t .loop .u) 0) (attach-next t) (named t) (At t .loop .u)
 state-next t =
     let l = At t .loop in
-    next-state (given (Start-of t)) (l .free) (l .attach) (l .next) (l .last) (l .u) (l .out) (l .inv) (t .before .before .before .before .before .before .before .before .loop-test .taken) (attach-next t) (t .take2 .ensures .1)
+    next-state (given (Start-of t)) (l .free) (l .attach) (l .next) (l .last) (l .u) (l .out) (l .inv) (t .before .before .before .before .before .before .before .before .before .loop-test .taken) (attach-next t) (t .take2 .ensures .1)
 
 pick-requires-2 : tie.Need-pick-requires-2 Inv-loop μ-loop
 pick-requires-2 c κs = (Start-of (c .before .before) .pre .0 .0, state-most (state-next (c .before .before)))
@@ -180,7 +184,7 @@ loop-less c =
     let t = c .before .before .before in
     let l = At t .loop in
     subst (λ (f : List ℕ). count (Start-of t .args .n) (marked f) < count (Start-of t .args .n) (marked (l .free))) (sym (t .take2 .ensures .0))
-    (next-count (given (Start-of t)) (l .free) (l .attach) (l .next) (l .last) (l .u) (l .out) (l .inv) (t .before .before .before .before .before .before .before .before .loop-test .taken) (attach-next t) (t .take2 .ensures .1))
+    (next-count (given (Start-of t)) (l .free) (l .attach) (l .next) (l .last) (l .u) (l .out) (l .inv) (t .before .before .before .before .before .before .before .before .before .loop-test .taken) (attach-next t) (t .take2 .ensures .1))
 
 loop-again : tie.Need-loop-again Inv-loop μ-loop
 unfolding heapOf
@@ -192,7 +196,7 @@ loop-again c =
     subst₂
     (λ (f x : List ℕ). Pass (s .args .n) (held (s .args .table .now)) (s .args .k) (S-of s) (s .args .p) (heapOf (s .args .block .now)) f (attach-next t) x (l .u) (r .block) (r .out))
     (sym (t .take2 .ensures .0)) (sym (t .before .before .before .before .join .ensures))
-    (pass-next (given s) (l .free) (l .attach) (l .next) (l .last) (l .u) (l .out) (l .inv) (t .before .before .before .before .before .before .before .before .loop-test .taken) (attach-next t) (t .take2 .ensures .1) (r .block) (r .out) (t .before .before .before .before .before .before .before .if2 .left)
+    (pass-next (given s) (l .free) (l .attach) (l .next) (l .last) (l .u) (l .out) (l .inv) (t .before .before .before .before .before .before .before .before .before .loop-test .taken) (attach-next t) (t .take2 .ensures .1) (r .block) (r .out) (ltb-false _ _ (sym (t .before .before .before .before .before .before .before .before .is-short .ensures) ∙ t .before .before .before .before .before .before .before .if2 .left))
     (subst (λ (f : List ℕ). Picked (s .args .n) (marked f) (attach-next t) (r .block) (r .out)) (t .take2 .ensures .0) (c .pick2 .ensures)))
 
 rename-requires : tie.Need-rename-requires Inv-loop μ-loop
@@ -225,6 +229,7 @@ pass-spec =
     pick-requires
     returns
     loop-holds
+    is-short-requires
     returns-2
     join-requires
     take-requires-2

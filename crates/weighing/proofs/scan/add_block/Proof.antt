@@ -10,7 +10,7 @@ use Rattle.meaning.proofs.Sums.{sum-ext}
 use Rattle.pairs.specs.Table.{held}
 use Rattle.pairs.specs.Side.{heapOf}
 use Rattle.growing.specs.Blocks.{inBlock, reaches, cross, butFor}
-use Rattle.pairs.specs.Marks.{Grown}
+use Rattle.joining.specs.Marks.{Grown}
 use Rattle.growing.proofs.Attach.{grown-start, grown-next, grown-end, grown-as, room-left, cross-rows, butFor-sum, butFor-cond, butFor-same}
 use native.Mathlib.Nat.{le-refl}
 use Rattle.weighing.proofs.scan.add_block.Statement.{statement}

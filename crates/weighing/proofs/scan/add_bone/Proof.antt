@@ -9,7 +9,7 @@ use Rattle.meaning.specs.Heap.{pile}
 use Rattle.pairs.specs.Table.{held}
 use Rattle.pairs.specs.Side.{heapOf}
 use Rattle.growing.specs.Blocks.{inBlock, reaches, butFor}
-use Rattle.pairs.specs.Marks.{Grown}
+use Rattle.joining.specs.Marks.{Grown}
 use Rattle.growing.proofs.Attach.{grown-start, grown-next, grown-end, grown-as, room-left, butFor-sum}
 use Rattle.weighing.proofs.scan.add_bone.Statement.{statement}
 use Rattle.weighing.proofs.scan.add_bone.Tie as tie

@@ -6,8 +6,8 @@ use native.Mathlib.Omega.{arith}
 use lib.Dec.{eqb}
 use Rattle.meaning.specs.Heap.{pile}
 use Rattle.pairs.specs.Side.{heapOf}
-use Rattle.pairs.specs.Marks.{Filled}
-use Rattle.pairs.proofs.Filling.{filled-start, filled-next, filled-end}
+use Rattle.joining.specs.Marks.{Filled}
+use Rattle.joining.proofs.Filling.{filled-start, filled-next, filled-end}
 use Rattle.weighing.proofs.scan.free_all.Statement.{statement}
 use Rattle.weighing.proofs.scan.free_all.Tie as tie
 

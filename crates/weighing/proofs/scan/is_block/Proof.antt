@@ -8,7 +8,7 @@ use Rattle.meaning.specs.Heap.{pile}
 use Rattle.meaning.proofs.Tests.{both, left-of, right-of, eq→eqb}
 use Rattle.meaning.proofs.Heaps.{pile-intro, pile-name}
 use Rattle.pairs.specs.Side.{heapOf}
-use Rattle.pairs.proofs.Filling.{cond-yes, cond-no}
+use Rattle.joining.proofs.Filling.{cond-yes, cond-no}
 use Rattle.weighing.proofs.scan.is_block.Statement.{statement}
 use Rattle.weighing.proofs.scan.is_block.Tie as tie
 

@@ -5,7 +5,7 @@ use borrow.Author.Needs.{needs}
 use lib.Dec.{leb, le→leb, leb→le, not-T}
 use lib.ListN.{getD, set}
 use native.Mathlib.Nat.{not-le-of-lt}
-use Rattle.pairs.proofs.Filling.{cond-yes, cond-no}
+use Rattle.joining.proofs.Filling.{cond-yes, cond-no}
 use Rattle.weighing.proofs.scan.join.Statement.{statement}
 use Rattle.weighing.proofs.scan.join.Tie as tie
 

@@ -2,7 +2,7 @@
 -- Assumes nothing.
 use borrow.Author.Needs.{needs}
 use Rattle.meaning.proofs.Tests.{eq→eqb, ne→neqb}
-use Rattle.pairs.specs.Marks.{marked}
+use Rattle.joining.specs.Marks.{marked}
 use Rattle.weighing.proofs.Picking.{looked-shut, looked-less, looked-more}
 use Rattle.weighing.proofs.scan.look.Statement.{statement}
 use Rattle.weighing.proofs.scan.look.Tie as tie

@@ -9,7 +9,7 @@ use lib.ListN.{getD}
 use Rattle.meaning.specs.Heap.{pile}
 use Rattle.meaning.proofs.Heaps.{pile-intro, pile-name}
 use Rattle.pairs.specs.Side.{heapOf}
-use Rattle.pairs.proofs.Filling.{cond-yes, cond-no}
+use Rattle.joining.proofs.Filling.{cond-yes, cond-no}
 use Rattle.weighing.proofs.scan.next_name.Statement.{statement}
 use Rattle.weighing.proofs.scan.next_name.Tie as tie
 

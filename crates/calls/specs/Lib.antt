@@ -1,0 +1,2 @@
+-- What the promises of the calls cite.
+pub mod Told

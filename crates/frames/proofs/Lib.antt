@@ -1,0 +1,3 @@
+-- The laws about frames and their parts.
+pub mod Frames
+pub mod Characters

@@ -1,0 +1,3 @@
+-- What the promises about frames cite.
+pub mod Frame
+pub mod Characters

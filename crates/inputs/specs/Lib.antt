@@ -1,0 +1,3 @@
+-- What the input writer's promises cite.
+pub mod Inputs
+pub mod Steps

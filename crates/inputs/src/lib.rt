@@ -1,0 +1,2 @@
+// Inputs: the writer of input texts.
+pub mod input;

@@ -1,0 +1,3 @@
+-- The laws of the small rules.
+pub mod Carries
+pub mod Filling

@@ -1,0 +1,2 @@
+-- What the promises of marks and blocks cite.
+pub mod Marks

@@ -1,0 +1,106 @@
+-- `kinds::each_cut` meets its contract. The invariant: the first i entries stand at the place, as lines.
+-- Assumes nothing.
+use Prim.Native.Nat.{ℕ, suc, _+_, _*_, _-_, _/_, _≤_, _<_}
+use mathlib.Core.Path.{_≡_, refl, sym, ap, _∙_}
+use mathlib.Core.List.{List, [], _∷_}
+use native.Mathlib.Omega.{arith}
+use borrow.Author.Needs.{needs}
+use lib.ListN.{length, take, drop}
+use Rattle.cuts.specs.Record.{entrySize}
+use Rattle.frames.specs.Frame.{line}
+use Rattle.lines.specs.Kinds.{cutLines}
+use Rattle.placing.specs.Placing.{over}
+use Rattle.placing.proofs.Places.{puts-fit}
+use Rattle.placing.proofs.Writes.{over-nil}
+use Rattle.lines.proofs.WritesLines.{part, length-cut, next-cut}
+use Rattle.lines.proofs.kinds.each_cut.Statement.{statement}
+use Rattle.lines.proofs.kinds.each_cut.Tie as tie
+
+abbrev Inv-loop : tie.InvT-loop
+Inv-loop room₀ at bytes cuts next₀ i₀ room next i =
+    (cuts ≡ length bytes / entrySize)
+    × (i ≤ cuts)
+    × (length room ≡ length room₀)
+    × (next ≡ at + 47 * i)
+    × (room ≡ over room₀ at (cutLines i bytes))
+
+abbrev μ-loop : tie.MeasureT-loop
+μ-loop room₀ at bytes cuts next₀ i₀ room next i = cuts - i
+
+loop-holds : tie.Need-loop-holds Inv-loop μ-loop
+unfolding cutLines
+loop-holds c =
+    let a = c .before .before .args in
+    (refl, omega arith, refl, omega arith, sym (over-nil (a .room .now) (a .at)))
+
+mul-from : tie.Need-mul-from Inv-loop μ-loop
+mul-from c = omega arith
+
+add-to : tie.Need-add-to Inv-loop μ-loop
+add-to c = omega arith
+
+sub-put-line : tie.Need-sub-put-line Inv-loop μ-loop
+sub-put-line c = omega arith
+
+part-put-line-start : tie.Need-part-put-line-start Inv-loop μ-loop
+part-put-line-start c = omega arith
+
+part-put-line-end : tie.Need-part-put-line-end Inv-loop μ-loop
+part-put-line-end c = omega arith
+
+put-line-requires : tie.Need-put-line-requires Inv-loop μ-loop
+put-line-requires c κs = search needs
+
+add-i : tie.Need-add-i Inv-loop μ-loop
+add-i c = omega arith
+
+loop-less : tie.Need-loop-less Inv-loop μ-loop
+loop-less c = omega arith
+
+loop-again : tie.Need-loop-again Inv-loop μ-loop
+loop-again c =
+    let at-loop = c .before .before .before .before .before .before in
+    let s = at-loop .before .before .before in
+    let bytes = s .args .bytes .now in
+    let i = at-loop .loop .i in
+    let inv = at-loop .loop .inv in
+    let call = c .before .before .put-line in
+    let below : i < length bytes / entrySize = omega arith in
+    let long = length-cut bytes i below in
+    let fits : at-loop .loop .next + length (line 3 (part bytes i below)) ≤ length (at-loop .loop .room) = omega (arith, s .pre, inv .2, inv .3) in
+    let put = puts-fit (at-loop .loop .room) (at-loop .loop .next) (line 3 (part bytes i below)) _ _ fits (call .ensures) in (
+      refl,
+      omega arith,
+      call .kept .0 ∙ inv .2,
+      omega (arith, put .0),
+      put .1 ∙ next-cut bytes i below (s .args .room .now) (at-loop .loop .room) (s .args .at) (at-loop .loop .next) (s .pre) (inv .4) (inv .3),
+    )
+
+same-length : tie.Need-same-length Inv-loop μ-loop
+same-length c = omega arith
+
+returns : tie.Need-returns Inv-loop μ-loop
+returns c =
+    let a = c .before .before .before .before .args in
+    let inv = c .before .loop .inv in
+    let all : c .before .loop .i ≡ length (a .bytes .now) / entrySize = omega arith in
+    (omega arith, inv .4 ∙ ap (λ (m : ℕ). over (a .room .now) (a .at) (cutLines m (a .bytes .now))) all)
+
+pub each-cut-spec : {M : Type 1} → statement M
+each-cut-spec =
+    tie.close
+    (tie.spec
+    Inv-loop
+    μ-loop
+    loop-holds
+    mul-from
+    add-to
+    sub-put-line
+    part-put-line-start
+    part-put-line-end
+    put-line-requires
+    add-i
+    loop-less
+    loop-again
+    same-length
+    returns)

@@ -1,0 +1,44 @@
+-- `kinds::put_cuts` meets its contract. Assumes nothing.
+use Prim.Native.Nat.{_/_}
+use native.Mathlib.Omega.{arith}
+use borrow.Author.Needs.{needs}
+use lib.ListN.{length}
+use Rattle.cuts.specs.Record.{entrySize}
+use Rattle.lines.specs.Kinds.{cutLines}
+use Rattle.placing.proofs.Places.{puts-short, puts-whole}
+use Rattle.lines.proofs.WritesLines.{length-cuts}
+use Rattle.lines.proofs.kinds.put_cuts.Statement.{statement}
+use Rattle.lines.proofs.kinds.put_cuts.Tie as tie
+
+returns : tie.Need-returns
+returns c =
+    let a = c .before .before .before .args in
+    let cuts = length (a .bytes .now) / entrySize in
+    puts-short (a .room .now) (a .at) (cutLines cuts (a .bytes .now)) (omega (arith, c .if1 .taken))
+
+sub-if2 : tie.Need-sub-if2
+sub-if2 c = search needs
+
+returns-2 : tie.Need-returns-2
+returns-2 c =
+    let a = c .before .before .before .before .args in
+    let cuts = length (a .bytes .now) / entrySize in
+    puts-short (a .room .now) (a .at) (cutLines cuts (a .bytes .now)) (omega (arith, length-cuts cuts (a .bytes .now) (omega arith), c .before .if1 .left, c .if2 .taken))
+
+each-cut-requires : tie.Need-each-cut-requires
+each-cut-requires c κs = search needs
+
+same-length : tie.Need-same-length
+same-length c = search needs
+
+returns-3 : tie.Need-returns-3
+returns-3 c =
+    let s = c .before .before .before .before in
+    let a = s .before .before .before .before .args in
+    let cuts = length (a .bytes .now) / entrySize in
+    let long = length-cuts cuts (a .bytes .now) (omega arith) in
+    let call = c .before .before .each-cut in
+    puts-whole (a .room .now) (a .at) (cutLines cuts (a .bytes .now)) _ _ (omega (arith, s .before .if1 .left, s .if2 .left)) (omega (arith, call .ensures .0)) (call .ensures .1)
+
+pub put-cuts-spec : {M : Type 1} → statement M
+put-cuts-spec = tie.close (tie.spec returns sub-if2 returns-2 each-cut-requires same-length returns-3)

@@ -1,0 +1,54 @@
+-- `kinds::put_labels` meets its contract. Assumes nothing.
+use Prim.Native.Nat.{ℕ, _+_, min}
+use mathlib.Core.Path.{ap, _∙_}
+use native.Mathlib.Omega.{arith}
+use borrow.Author.Needs.{needs}
+use lib.ListN.{length}
+use Rattle.pairs.specs.Side.{heapOf}
+use Rattle.lines.specs.Kinds.{labelLines}
+use Rattle.placing.specs.Placing.{over}
+use Rattle.placing.proofs.Places.{puts-short, puts-whole}
+use Rattle.lines.proofs.WritesLines.{length-labels}
+use Rattle.lines.proofs.kinds.put_labels.Statement.{statement}
+use Rattle.lines.proofs.kinds.put_labels.Tie as tie
+
+bones-of-requires : tie.Need-bones-of-requires
+bones-of-requires c κs = search needs
+
+returns : tie.Need-returns
+returns c =
+    let a = c .before .before .before .args in
+    puts-short (a .room .now) (a .at) (labelLines (min (a .n) 128) (heapOf (a .names .now))) (omega (arith, c .if1 .taken))
+
+sub-if2 : tie.Need-sub-if2
+sub-if2 c = search needs
+
+mul-if2 : tie.Need-mul-if2
+mul-if2 c = search needs
+
+returns-2 : tie.Need-returns-2
+returns-2 c =
+    let a = c .before .before .before .before .args in
+    puts-short (a .room .now) (a .at) (labelLines (min (a .n) 128) (heapOf (a .names .now)))
+    (omega (arith, length-labels (min (a .n) 128) (heapOf (a .names .now)), c .before .if1 .left, c .if2 .taken, c .before .before .bones-of .ensures))
+
+each-label-requires : tie.Need-each-label-requires
+each-label-requires c κs = search needs
+
+same-length : tie.Need-same-length
+same-length c = search needs
+
+returns-3 : tie.Need-returns-3
+returns-3 c =
+    let s = c .before .before .before .before in
+    let a = s .before .before .before .before .args in
+    let few = s .before .before .bones-of .ensures in
+    let long = length-labels (min (a .n) 128) (heapOf (a .names .now)) in
+    let call = c .before .before .each-label in
+    puts-whole (a .room .now) (a .at) (labelLines (min (a .n) 128) (heapOf (a .names .now))) _ _
+    (omega (arith, s .before .if1 .left, s .if2 .left, few))
+    (omega (arith, call .ensures .0, few))
+    (call .ensures .1 ∙ ap (λ (m : ℕ). over (a .room .now) (a .at) (labelLines m (heapOf (a .names .now)))) few)
+
+pub put-labels-spec : {M : Type 1} → statement M
+put-labels-spec = tie.close (tie.spec bones-of-requires returns sub-if2 mul-if2 returns-2 each-label-requires same-length returns-3)

@@ -1,0 +1,44 @@
+-- `kinds::put_link` meets its contract. Assumes nothing.
+use borrow.Author.Needs.{needs}
+use Prim.Native.Nat.{ℕ}
+use mathlib.Core.Path.{ap₂}
+use mathlib.Core.List.{[], _∷_}
+use Rattle.lines.specs.Kinds.{linkLine, two}
+use Rattle.placing.proofs.Places.{puts-told}
+use Rattle.lines.proofs.kinds.put_link.Statement.{statement}
+use Rattle.lines.proofs.kinds.put_link.Tie as tie
+
+high-requires : tie.Need-high-requires
+high-requires c κs = search needs
+
+low-requires : tie.Need-low-requires
+low-requires c κs = search needs
+
+slice-aggregate-put-line : tie.Need-slice-aggregate-put-line
+slice-aggregate-put-line c = search needs
+
+put-line-requires : tie.Need-put-line-requires
+put-line-requires c κs = search needs
+
+same-length : tie.Need-same-length
+same-length c = search needs
+
+returns : tie.Need-returns
+unfolding linkLine two
+returns c =
+    let low = c .before .before .before .before .before in
+    let a = low .before .before .before .args in
+    puts-told _ _ _ _ 2 _ _
+    (ap₂ (λ (x y : ℕ). a .a ∷ a .b ∷ x ∷ y ∷ []) (low .before .high .ensures) (low .low .ensures))
+    (c .before .before .put-line .ensures)
+
+pub put-link-spec : {M : Type 1} → statement M
+put-link-spec =
+    tie.close
+    (tie.spec
+    high-requires
+    low-requires
+    slice-aggregate-put-line
+    put-line-requires
+    same-length
+    returns)

@@ -1,0 +1,3 @@
+-- What the promises of the lines' writers cite.
+pub mod Kinds
+pub mod Writing

@@ -1,0 +1,2 @@
+-- What the promises of judging links cite.
+pub mod Links

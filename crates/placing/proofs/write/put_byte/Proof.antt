@@ -1,0 +1,47 @@
+-- `write::put_byte` meets its contract. Assumes nothing.
+use borrow.Author.Needs.{needs}
+use native.Mathlib.Omega.{arith}
+use lib.ListN.{set, length-set}
+use mathlib.Core.Path.{_∙_, ap₂}
+use Prim.Native.Nat.{ℕ, _+_}
+use Rattle.frames.specs.Frame.{hex}
+use Rattle.placing.proofs.Writes.{over-two}
+use Rattle.placing.proofs.write.put_byte.Statement.{statement}
+use Rattle.placing.proofs.write.put_byte.Tie as tie
+
+digit-of-requires : tie.Need-digit-of-requires
+digit-of-requires c κs = search needs
+
+slice-write-room : tie.Need-slice-write-room
+slice-write-room c = search needs
+
+digit-of-requires-2 : tie.Need-digit-of-requires-2
+digit-of-requires-2 c κs = search needs
+
+add-room : tie.Need-add-room
+add-room c = search needs
+
+slice-write-room-2 : tie.Need-slice-write-room-2
+slice-write-room-2 c = simp length-set (omega arith)
+
+same-length : tie.Need-same-length
+same-length c = search needs
+
+returns : tie.Need-returns
+unfolding hex
+returns c =
+    let a = c .before .before .before .args in
+    ap₂ (λ (x y : ℕ). set (set (a .room .now) (a .at) x) (a .at + 1) y) (c .before .digit-of .ensures) (c .digit-of2 .ensures)
+    ∙ over-two (a .room .now) (a .at) _ _ (c .before .before .before .pre)
+
+pub put-byte-spec : {M : Type 1} → statement M
+put-byte-spec =
+    tie.close
+    (tie.spec
+    digit-of-requires
+    slice-write-room
+    digit-of-requires-2
+    add-room
+    slice-write-room-2
+    same-length
+    returns)

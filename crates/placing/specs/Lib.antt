@@ -1,0 +1,2 @@
+-- What the promise of a line's writer cites.
+pub mod Placing

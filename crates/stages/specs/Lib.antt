@@ -1,0 +1,3 @@
+-- What the promises about the order of frames cite.
+pub mod Stages
+pub mod Step
