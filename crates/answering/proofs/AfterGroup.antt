@@ -18,7 +18,7 @@ use Rattle.meaning.specs.Heap.{Cut, start, LawfulRun, left, finished}
 use Rattle.meaning.proofs.Sums.{count-most}
 use Rattle.meaning.proofs.Theorems.{links-symmetric, can-finish, cuts-and-groups}
 use Rattle.links.specs.Links.{tableRows}
-use Rattle.placed.specs.Records.{firstOf}
+use Rattle.stored.specs.Records.{firstOf}
 use Rattle.links.proofs.LinksRows.{table-counted, accepted-left, accepted-right}
 use Rattle.runs.specs.declared.Answer.{Answer}
 use Rattle.cuts.specs.Record.{entrySize, cutsOf}

@@ -1,9 +1,9 @@
 // The program's one function, from bytes to bytes: an input text is read, its bones are grouped, and the result text is written; or the first refusal's
 // frame, alone. The functions over link records are proved by hand, so each only lends, and goes by one answer; numbers are left to covered ones.
+use cuts::size::size_of;
+use cuts::size::size_of_run;
 use cutting::Answer;
 use cutting::grouping_records;
-use lines::entries::size_of;
-use lines::entries::size_of_run;
 use meaning::Link;
 use reading::Reading;
 use reading::reader::read;

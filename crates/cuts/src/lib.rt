@@ -1,5 +1,6 @@
 // The record of cuts, as bytes.
 pub mod record;
+pub mod size;
 
 ghost use mathlib.Core.Path.{_≡_};
 ghost use Prim.Native.Nat.{_-_, min};

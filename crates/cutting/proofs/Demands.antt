@@ -33,7 +33,7 @@ use Rattle.cuts.proofs.Cuts.{length-cuts}
 use Rattle.cuts.proofs.Narrow.{narrow-cuts}
 use Rattle.replay.proofs.Lawful.{Stopped, entries-lawful, lawful-entries, entries-stop, record-fits}
 use Rattle.runs.proofs.Finish.{cuts-most, run-labels, run-groups, run-cuts}
-use Rattle.runs.proofs.Told.{label-fits, space-fits}
+use Rattle.runs.proofs.Answers.{label-fits, space-fits}
 use Rattle.cutting.proofs.Carried.{checking-core, grouping-core}
 use Rattle.runs.proofs.Continuing.{Sound}
 

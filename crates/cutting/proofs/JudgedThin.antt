@@ -16,7 +16,7 @@ use Rattle.meaning.specs.declared.Judged.the-variants.{Accepted, Refused}
 use Rattle.meaning.specs.Judge.{first}
 use Rattle.meaning.specs.Firm.{label}
 use Rattle.links.specs.Links.{tableRows}
-use Rattle.placed.specs.Records.{keptLinks, written}
+use Rattle.stored.specs.Records.{keptLinks, written}
 use Rattle.pairs.specs.Side.{heapOf}
 use Rattle.pairs.specs.Table.{held, filled}
 use Rattle.links.proofs.LinksBytes.{Short}

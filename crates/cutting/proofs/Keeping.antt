@@ -18,11 +18,11 @@ use Rattle.meaning.specs.Tally.{Tally}
 use Rattle.meaning.specs.Firm.{label}
 use Rattle.meaning.specs.Heap.{Heap}
 use Rattle.pairs.specs.Side.{heapOf}
-use Rattle.placed.specs.Records.{sameLabel, keptLinks}
-use Rattle.links.specs.Links.{linksOf, linkAt, linkRows, linksRows, tableRows}
+use Rattle.stored.specs.Records.{sameLabel, keptLinks}
+use Rattle.links.specs.Links.{linksOf, linkAt, tableRows}
 use Rattle.links.proofs.LinksBytes.{linksOf-next, linksOf-end}
-use Rattle.placed.proofs.RecordsKept.{same-below, kept-all, kept-most as kept-first}
-use Rattle.links.proofs.LinksRows.{Proper, Propers, first-accepted, first-refused, link-accepted, links-here, links-next}
+use Rattle.stored.proofs.RecordsKept.{kept-all, kept-most as kept-first}
+use Rattle.links.proofs.LinksRows.{Propers, first-accepted, first-refused}
 use Rattle.cutting.specs.declared.Thinned.{Thinned}
 use Rattle.cutting.specs.declared.Thinned.the-variants.{Kept, Refused as Refused·thinned}
 use Rattle.cutting.specs.Rows.{linkRow, thinningRows}
@@ -75,11 +75,6 @@ module _ (same : Bool) (bytes space : List ℕ) (count : ℕ) where
         put = p ∙ sym (ap (λ (t : Bool). cond t (paste space (count * 4) bytes 4) space) e);
       }
 
--- the labels of both ends, where they are bones
-pub same-bones : (labels : List ℕ) (l : Link) → l .a < 128 → l .b < 128 → sameLabel labels l ≡ eqb (heapOf labels (l .a)) (heapOf labels (l .b))
-unfolding heapOf
-same-bones labels l p q = sym (same-below labels l p q)
-
 -- ---- the links kept
 
 kept-it : (labels : List ℕ) (l : Link) (ls : List Link) {rest : List Link} → rest ≡ l ∷ ls → sameLabel labels l ≡ true → keptLinks labels rest ≡ l ∷ keptLinks labels ls
@@ -122,21 +117,13 @@ module _ (labels links space₀ : List ℕ) where
     pub number : length (keptLinks labels (linksOf links)) ≡ count + length (keptLinks labels (linksOf (drop (i * 4) links)))
     pub rest : drop (count * 4) space ≡ drop (count * 4) space₀
     pub long : length space ≡ length space₀
-    pub proper : first (linksRows 128 i (linksOf (drop (i * 4) links))) ≡ Accepted
 
-  pub keeping-start : first (linksRows 128 0 (linksOf links)) ≡ Accepted → Keeping space₀ 0 0
-  keeping-start e =
-      record { place = zero-le; most = le-refl 0; bytes = refl; number = omega arith; rest = refl; long = refl; proper = e }
+  pub keeping-start : Keeping space₀ 0 0
+  keeping-start = record { place = zero-le; most = le-refl 0; bytes = refl; number = omega arith; rest = refl; long = refl }
 
   module _ (space : List ℕ) (count i : ℕ) (k : Keeping space count i) (l : i < length links / 4) where
     next : linksOf (drop (i * 4) links) ≡ linkAt links i ∷ linksOf (drop ((i + 1) * 4) links)
     next = linksOf-next links i l refl
-
-    accepted : first (linkRows 128 i (linkAt links i)) ≡ Accepted
-    accepted = links-here 128 i (linkAt links i) (linksOf (drop ((i + 1) * 4) links)) next (k .proper)
-
-    pub keeping-proper : Proper 128 (linkAt links i)
-    keeping-proper = link-accepted 128 i (linkAt links i) accepted
 
     pub keeping-next : (space′ : List ℕ) (count′ : ℕ) → length links / 4 ≤ length space₀ / 4 → ((j : ℕ) → getD links j 0 < 256)
         → Keeps (sameLabel labels (linkAt links i)) (take 4 (drop (i * 4) links)) space count space′ count′ → Keeping space′ count′ (i + 1)
@@ -144,9 +131,6 @@ module _ (labels links space₀ : List ℕ) where
       where
         after : List Link
         after = linksOf (drop ((i + 1) * 4) links)
-
-        onward : first (linksRows 128 (i + 1) after) ≡ Accepted
-        onward = sym (links-next 128 i (linkAt links i) after next accepted) ∙ k .proper
 
         four-bytes : List ℕ
         four-bytes = take 4 (drop (i * 4) links)
@@ -187,7 +171,6 @@ module _ (labels links space₀ : List ℕ) where
               number = omega (arith, k .number, counted, ap length more);
               rest = ap₂ drop step put ∙ put-rest ∙ ap (λ (m : ℕ). drop m space₀) (sym step);
               long = ap length put ∙ length-paste space (count * 4) four-bytes 4 fits wide ∙ k .long;
-              proper = onward;
             }
         go false e =
             let counted : count′ ≡ count = s .counted ∙ ap (λ (t : Bool). count + cond t 1 0) e ∙ add-zero count in
@@ -200,7 +183,6 @@ module _ (labels links space₀ : List ℕ) where
               number = omega (arith, k .number, counted, ap length same);
               rest = ap₂ (λ (m : ℕ) (x : List ℕ). drop (m * 4) x) counted put ∙ k .rest ∙ ap (λ (m : ℕ). drop (m * 4) space₀) (sym counted);
               long = ap length put ∙ k .long;
-              proper = onward;
             }
 
   -- behind the last link

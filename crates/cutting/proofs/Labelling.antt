@@ -22,7 +22,7 @@ use Rattle.heaps.proofs.Names.{names-at}
 use Rattle.runs.specs.declared.Answer.{Answer}
 use Rattle.runs.specs.Rows.{labelRow, spaceRow}
 use Rattle.runs.specs.Runs.{Grouped}
-use Rattle.runs.proofs.Told.{label-fits, space-fits}
+use Rattle.runs.proofs.Answers.{label-fits, space-fits}
 
 -- the empty record is accepted
 none-given : (n : ℕ) (w : Tally) (k : ℕ) → first (recordRows n w k []) ≡ Accepted

@@ -40,11 +40,11 @@ use Rattle.meaning.specs.declared.Judged.{Judged}
 use Rattle.meaning.specs.declared.Judged.the-variants.{Accepted}
 use Rattle.meaning.specs.Judge.{first}
 use Rattle.meaning.specs.Firm.{label}
-use Rattle.placed.specs.Records.{keptLinks, written}
+use Rattle.stored.specs.Records.{keptLinks, written}
 use Rattle.links.specs.Links.{countRows}
 use Rattle.pairs.specs.Side.{heapOf}
 use Rattle.pairs.specs.Table.{held}
-use Rattle.placed.proofs.RecordsLink.{R, J, told, IsJudged, told-so, made-judged}
+use Rattle.stored.proofs.RecordsLink.{R, J, told, IsJudged, told-so, made-judged}
 use Rattle.lent.proofs.RecordsCalls.{calls-to}
 use Rattle.lent.proofs.RecordsRead.{Own}
 use Rattle.lent.proofs.RecordsTable.{Table}

@@ -14,7 +14,7 @@ use Rattle.runs.specs.declared.Answer.{Answer}
 use Rattle.runs.specs.Runs.{Checked, Grouped}
 use Rattle.cutting.specs.declared.Thinned.{Thinned}
 use Rattle.cutting.specs.declared.Thinned.the-variants.{Kept, Refused as Refused·thinned}
-use Rattle.placed.specs.Records.{keptLinks}
+use Rattle.stored.specs.Records.{keptLinks}
 use Rattle.heaps.specs.Names.{settled, names}
 use Rattle.cutting.specs.Rows.{checkingRows, groupingRows, thinningRows}
 

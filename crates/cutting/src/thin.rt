@@ -2,42 +2,34 @@
 use crate::Thinned;
 use cuts::record::Record;
 use cuts::record::copy;
+use links::link_at;
 use meaning::Judged;
 use runs::group_table;
+use stored::same_label;
 use weighing::fill;
 ghost use mathlib.Core.Path.{_≡_};
 ghost use mathlib.Core.Bool.{true};
 ghost use mathlib.Core.List.{[], _∷_};
 ghost use Prim.Native.Nat.{ℕ, _+_, _*_, _/_, _≤_, _<_};
-ghost use lib.Dec.{eqb};
 ghost use lib.ListN.{length, take, drop};
 ghost use Rattle.meaning.specs.declared.Judged.the-variants.{Accepted};
 ghost use Rattle.meaning.specs.Judge.{first};
 ghost use Rattle.meaning.specs.Firm.{label};
 ghost use Rattle.links.specs.Links.{whole, linksOf, linkAt, countRows, linksRows};
-ghost use Rattle.placed.specs.Records.{sameLabel, keptLinks};
+ghost use Rattle.stored.specs.Records.{sameLabel, keptLinks};
 ghost use Rattle.pairs.specs.Side.{heapOf};
 ghost use Rattle.pairs.specs.Table.{held};
 ghost use Rattle.cutting.specs.Rows.{linkRow};
 ghost use Rattle.cutting.specs.Thin.{Keeps};
 ghost use Rattle.cutting.specs.Calls.{linkBytes, over, Thins, Thinning};
 
-// Whether two bones bear one name.
-fn same_pile(names: &[u8; 128], a: u8, b: u8) -> bool
-    requires { ⌜ (a < 128) × (b < 128) ⌝ }
-    ensures { λ r. ⌜ r ≡ eqb (heapOf (now (names .entry)) a) (heapOf (now (names .entry)) b) ⌝ }
-{
-    names[a as usize] == names[b as usize]
-}
-
 // The link in place i is put behind the links that were kept so far, where its ends bear one name.
 fn keep_link(names: &[u8; 128], links: &[u8], i: usize, space: &mut [u8], kept: usize) -> usize
-    requires { ⌜ (i * 4 + 4 ≤ length (now links)) × (linkAt (now links) i .a < 128) × (linkAt (now links) i .b < 128) ⌝ }
-    requires { ⌜ kept * 4 + 4 ≤ length (now space) ⌝ }
+    requires { ⌜ (i * 4 + 4 ≤ length (now links)) × (kept * 4 + 4 ≤ length (now space)) ⌝ }
     ensures { λ r. ⌜ Keeps (sameLabel (now (names .entry)) (linkAt (now (links .entry)) i)) (take 4 (drop (i * 4) (now (links .entry)))) (now (space .entry)) kept (now (space .exit)) r ⌝ }
 {
     let at = i * 4;
-    if !same_pile(names, links[at], links[at + 1]) {
+    if !same_label(names, link_at(links, i)) {
         return kept;
     }
     copy(&links[at..at + 4], space, kept * 4);
@@ -46,7 +38,7 @@ fn keep_link(names: &[u8; 128], links: &[u8], i: usize, space: &mut [u8], kept: 
 
 // The links whose ends bear one name go to the front of the link space, in order.
 fn keep(names: &[u8; 128], links: &[u8], space: &mut [u8]) -> usize
-    requires { ⌜ (first (linksRows 128 0 (linksOf (now links))) ≡ Accepted) × (length (now links) / 4 ≤ length (now space) / 4) ⌝ }
+    requires { ⌜ length (now links) / 4 ≤ length (now space) / 4 ⌝ }
     ensures { λ r. ⌜ r ≡ length (keptLinks (now (names .entry)) (linksOf (now (links .entry)))) ⌝ }
     ensures { λ _. ⌜ now (space .exit) ≡ over (linkBytes (keptLinks (now (names .entry)) (linksOf (now (links .entry))))) (now (space .entry)) ⌝ }
 {

@@ -13,7 +13,7 @@ use Rattle.meaning.specs.declared.Judged.{Judged}
 use Rattle.meaning.specs.declared.Judged.the-variants.{Accepted, Refused}
 use Rattle.meaning.specs.Judge.{refuse, first}
 use Rattle.links.specs.Links.{tableRows}
-use Rattle.placed.specs.Records.{firstOf}
+use Rattle.stored.specs.Records.{firstOf}
 use Rattle.links.proofs.LinksRows.{table-counted}
 use Rattle.cuts.specs.Record.{entrySize}
 use Rattle.replay.specs.Rows.{recordRow}

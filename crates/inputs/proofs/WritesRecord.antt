@@ -31,7 +31,7 @@ use denote.Triple.Statement.{Contract, Triple}
 use denote.Triple.Spec.{tripleOf}
 use denote.Triple.Walked.{says}
 use Rattle.meaning.specs.declared.Link.{Link}
-use Rattle.placed.proofs.RecordsLink.{R, val, IsLink, made}
+use Rattle.stored.proofs.RecordsLink.{R, val, IsLink, made}
 use Rattle.lent.proofs.RecordsCalls.{calls-to}
 use Rattle.lent.proofs.RecordsAgain.{LentAgain, lends-again, comes-back}
 use Rattle.lines.specs.Kinds.{linkLine}

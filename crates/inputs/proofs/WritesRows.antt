@@ -12,7 +12,7 @@ use Rattle.meaning.specs.declared.Judged.{Judged}
 use Rattle.meaning.specs.declared.Judged.the-variants.{Accepted, Refused}
 use Rattle.meaning.specs.Judge.{refuse, first}
 use Rattle.meaning.proofs.Tests.{taut, so, _⊃_}
-use Rattle.placed.specs.Records.{firstOf}
+use Rattle.stored.specs.Records.{firstOf}
 use Rattle.cuts.specs.Record.{entrySize}
 use Rattle.replay.specs.Rows.{recordRow}
 use Rattle.placing.specs.Placing.{over, Puts}

@@ -1,8 +1,8 @@
 -- Sums and differences of 64 bits whose carries are lost.
 -- Assumes nothing.
-use Prim.Native.Nat.{ℕ, _+_, _*_, _-_, _%_, _≤_, _<_, _^_}
+use Prim.Native.Nat.{ℕ, _+_, _*_, _%_, _^_}
 use mathlib.Core.Path.{_≡_, sym, _∙_, ap}
-use native.Mathlib.Nat.{mod-add-mod, mod-eq-of-lt}
+use native.Mathlib.Nat.{mod-add-mod}
 use native.Mathlib.Omega.{arith}
 
 -- t taken off twice, carry or not: r is what is left
@@ -15,7 +15,3 @@ twice-off all t rest r once twice =
   where
     sum-of : (a b : ℕ) → a + 2 * b ≡ a + b + b
     sum-of a b = omega arith
-
--- where the numbers have room and enough is there to be taken off, no carry is lost
-pub no-carry : (all t r : ℕ) → all < 2 ^ 64 → 2 * t ≤ all → r < 2 ^ 64 → (r + 2 * t) % 2 ^ 64 ≡ all % 2 ^ 64 → r ≡ all - 2 * t
-no-carry all t r fits covers small e = omega (arith, e ∙ mod-eq-of-lt fits)

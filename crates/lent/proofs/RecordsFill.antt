@@ -37,7 +37,7 @@ use Rattle.meaning.specs.declared.Judged.{Judged}
 use Rattle.meaning.specs.Judge.{first}
 use Rattle.links.specs.Links.{tableRows}
 use Rattle.pairs.specs.Table.{filled}
-use Rattle.placed.proofs.RecordsLink.{R, J, told, IsJudged, told-so}
+use Rattle.stored.proofs.RecordsLink.{R, J, told, IsJudged, told-so}
 use Rattle.lent.proofs.RecordsCalls.{calls-to}
 use Rattle.lent.proofs.RecordsRead.{Own}
 use Rattle.lent.proofs.RecordsTable.{Table, OwnTable}

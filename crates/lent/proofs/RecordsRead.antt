@@ -33,11 +33,11 @@ use denote.Triple.Spec.{tripleOf}
 use denote.Triple.Clauses.{Clauses, Ended, Lasts, atExit, closing}
 use denote.Triple.Walked.{says}
 use Rattle.meaning.specs.declared.Link.{Link}
-use Rattle.placed.specs.Records.{noLink}
-use Rattle.placed.proofs.RecordsLink.{R, val, IsLink, tells}
+use Rattle.stored.specs.Records.{noLink}
+use Rattle.stored.proofs.RecordsLink.{R, val, IsLink, tells}
 use Rattle.lent.proofs.RecordsCalls.{calls-over}
-use Rattle.placed.proofs.link_at as link-at
-use Rattle.placed.proofs.link_at.Symbol.{name as #link-at}
+use Rattle.stored.proofs.link_at as link-at
+use Rattle.stored.proofs.link_at.Symbol.{name as #link-at}
 use Rattle.lent.proofs.link_of as link-of
 use Rattle.lent.proofs.link_of.Symbol.{name as #link-of}
 

@@ -17,8 +17,8 @@ use Rattle.meaning.specs.declared.Judged.the-variants.{Accepted, Refused}
 use Rattle.meaning.specs.Judge.{refuse, first}
 use Rattle.links.specs.Links.{linkRows, linksRows, countRows, tableRows}
 use Rattle.pairs.specs.Table.{added, tallied, filled}
-use Rattle.placed.proofs.RecordsKept.{take-next}
-use Rattle.placed.specs.Records.{noLink, firstOf, upTo, refusedOne, refusedLinks, toJudge}
+use Rattle.stored.proofs.RecordsKept.{take-next}
+use Rattle.stored.specs.Records.{noLink, firstOf, upTo, refusedOne, refusedLinks, toJudge}
 use Rattle.pairs.proofs.TableAdds.{tallied-append}
 use Rattle.links.proofs.LinksRows.{counts-accepted, Proper, Propers, links-accepted, links-proper, propers-more, table-counted, table-proper}
 

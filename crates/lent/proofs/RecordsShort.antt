@@ -21,7 +21,7 @@ use Rattle.meaning.specs.declared.Link.{Link}
 use Rattle.meaning.proofs.Link as L
 use Rattle.meaning.proofs.Link.Laws as L′
 use Rattle.links.proofs.LinksBytes.{Short}
-use Rattle.placed.proofs.RecordsLink.{R, vals, tells, copied}
+use Rattle.stored.proofs.RecordsLink.{R, vals, tells, copied}
 use Rattle.lent.proofs.RecordsRead.{Own}
 
 module _ {M : Type 1} (𝓤 : URA M) (H : Heap 𝓤) (A : Atoms 𝓤) where

@@ -30,11 +30,11 @@ use denote.Steps.{only, owned, nothing}
 use denote.Triple.Statement.{Contract, Triple}
 use denote.Triple.Spec.{tripleOf}
 use Rattle.meaning.specs.declared.Link.{Link}
-use Rattle.placed.proofs.RecordsLink.{R, val, IsLink, made}
+use Rattle.stored.proofs.RecordsLink.{R, val, IsLink, made}
 use Rattle.lent.proofs.RecordsCalls.{calls-to}
 use Rattle.lent.proofs.RecordsAgain.{LentAgain, lends-again, comes-back}
-use Rattle.placed.proofs.store_link as f
-use Rattle.placed.proofs.store_link.Symbol.{name as #store-link}
+use Rattle.stored.proofs.store_link as f
+use Rattle.stored.proofs.store_link.Symbol.{name as #store-link}
 
 module _ (b o : ℕ) where
   abbrev ref : GName → List Link → RefT (List Link)

@@ -31,7 +31,7 @@ use denote.Triple.Spec.{tripleOf}
 use denote.Triple.Walked.{says}
 use Rattle.meaning.specs.declared.Link.{Link}
 use Rattle.pairs.specs.Table.{added}
-use Rattle.placed.proofs.RecordsLink.{R, val, IsLink, made}
+use Rattle.stored.proofs.RecordsLink.{R, val, IsLink, made}
 use Rattle.lent.proofs.RecordsCalls.{calls-to}
 use Rattle.lent.proofs.add_record as f
 use Rattle.lent.proofs.add_record.Symbol.{name as #add-record}

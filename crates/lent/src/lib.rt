@@ -5,9 +5,9 @@ use links::judge_link;
 use meaning::Judged;
 use meaning::Link;
 use pairs::table::add_within;
-use placed::link_at;
-use placed::same_label;
-use placed::store_link;
+use stored::link_at;
+use stored::same_label;
+use stored::store_link;
 ghost use mathlib.Core.Path.{_≡_};
 ghost use Prim.Native.Nat.{_+_, _-_, _<_, _≤_};
 ghost use mathlib.Core.Bool.{true};
@@ -16,7 +16,7 @@ ghost use Rattle.meaning.specs.Judge.{first};
 ghost use Rattle.meaning.specs.declared.Judged.the-variants.{Accepted};
 ghost use Rattle.links.specs.Links.{linkRows, linksRows, tableRows};
 ghost use Rattle.pairs.specs.Table.{added, tallied, filled};
-ghost use Rattle.placed.specs.Records.{noLink, firstOf, upTo, refusedOne, refusedLinks, toJudge, keptLinks, written};
+ghost use Rattle.stored.specs.Records.{noLink, firstOf, upTo, refusedOne, refusedLinks, toJudge, keptLinks, written};
 
 // The link in place i, which is one of the run.
 pub(crate) fn link_of(links: &[Link], i: usize) -> Link

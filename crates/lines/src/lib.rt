@@ -1,5 +1,5 @@
 // Lines: frames written in lines of hexadecimal at a place of lent room, each kind's by its own function.
-pub mod entries;
+
 pub mod kinds;
 pub mod refusal;
 

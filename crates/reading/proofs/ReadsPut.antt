@@ -11,7 +11,7 @@ use lib.Dec.{T}
 use lib.ListN.{length, getD, set, take, drop, length-append, length-take, length-drop, length-set, take-append-drop}
 use lib.Seq.{length-take-le, take-all, drop-cons, append-snoc, take-at, drop-at, drop-drop, set-split}
 use Rattle.meaning.specs.declared.Link.{Link}
-use Rattle.placed.specs.Records.{noLink}
+use Rattle.stored.specs.Records.{noLink}
 use Rattle.cuts.specs.Record.{entrySize}
 use Rattle.reading.specs.Lines.{Line, linesOf}
 use Rattle.reading.specs.Reader.{linkIn, entryIn, linksIn, entriesIn}

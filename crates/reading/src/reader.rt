@@ -13,7 +13,7 @@ use crate::store::link_past;
 use crate::store::links_of;
 use crate::store::store_entries;
 use meaning::Link;
-use placed::store_link;
+use stored::store_link;
 
 // So many links of a text that was judged, put at the front of the link space; the rest of it stays.
 fn store_links(text: &[u8], links: &mut [Link], count: usize)

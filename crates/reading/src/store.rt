@@ -4,7 +4,7 @@ ghost use mathlib.Core.List.{_++_};
 ghost use Prim.Native.Nat.{_+_, _*_, _<_, _≤_};
 ghost use lib.Dec.{T};
 ghost use lib.ListN.{length, getD, take, drop};
-ghost use Rattle.placed.specs.Records.{noLink};
+ghost use Rattle.stored.specs.Records.{noLink};
 ghost use Rattle.cuts.specs.Record.{entrySize};
 ghost use Rattle.reading.specs.Lines.{linesOf};
 ghost use Rattle.reading.specs.Reader.{linksIn, entriesIn};

@@ -2,4 +2,4 @@
 pub mod Finish
 pub mod Going
 pub mod Continuing
-pub mod Told
+pub mod Answers

@@ -14,7 +14,7 @@ use Rattle.meaning.specs.Judge.{refuse, first}
 use Rattle.meaning.specs.Tally.{Tally, pairTally}
 use Rattle.meaning.specs.Heap.{Heap, start, left}
 use Rattle.links.specs.Links.{tableRows}
-use Rattle.placed.specs.Records.{firstOf}
+use Rattle.stored.specs.Records.{firstOf}
 use Rattle.pairs.specs.Table.{held, filled}
 use Rattle.links.proofs.LinksBytes.{Short}
 use Rattle.heaps.specs.Names.{settled, names as namesOf}

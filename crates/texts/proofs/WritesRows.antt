@@ -12,7 +12,7 @@ use Rattle.meaning.specs.declared.Judged.the-variants.{Accepted, Refused}
 use Rattle.meaning.specs.Judge.{refuse, first}
 use Rattle.meaning.specs.Tally.{pairTally}
 use Rattle.links.specs.Links.{tableRows}
-use Rattle.placed.specs.Records.{firstOf}
+use Rattle.stored.specs.Records.{firstOf}
 use Rattle.replay.specs.Rows.{recordRows}
 use Rattle.reading.specs.Reader.{put}
 use Rattle.lines.specs.declared.Written.{Written}

@@ -16,7 +16,7 @@ ghost use lib.Dec.{ltb};
 ghost use lib.ListN.{length};
 ghost use Rattle.meaning.specs.Judge.{refuse, first};
 ghost use Rattle.meaning.specs.declared.Judged.the-variants.{Accepted};
-ghost use Rattle.placed.specs.Records.{firstOf};
+ghost use Rattle.stored.specs.Records.{firstOf};
 ghost use Rattle.pairs.specs.Table.{held};
 ghost use Rattle.replay.specs.Rows.{recordRows};
 ghost use Rattle.lines.specs.Writing.{Writes};

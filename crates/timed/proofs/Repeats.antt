@@ -11,8 +11,8 @@ use lib.Seq.{take-suc-set}
 use Rattle.meaning.specs.declared.Link.{Link}
 use Rattle.links.specs.Links.{linkAt, linksOf}
 use Rattle.links.proofs.LinksBytes.{linksOf-at, length-linksOf}
-use Rattle.placed.specs.Records.{noLink}
-use Rattle.placed.proofs.RecordsKept.{take-next}
+use Rattle.stored.specs.Records.{noLink}
+use Rattle.stored.proofs.RecordsKept.{take-next}
 use Rattle.runs.specs.declared.Answer.{Answer}
 use Rattle.cutting.specs.Calls.{Grouping}
 use Rattle.timed.specs.Groups.{groupsOf, Repeated}

@@ -5,7 +5,7 @@ use mathlib.Core.List.{List}
 use lib.ListN.{length, replicate}
 use Rattle.meaning.specs.declared.Link.{Link}
 use Rattle.meaning.specs.Judge.{first}
-use Rattle.placed.specs.Records.{noLink}
+use Rattle.stored.specs.Records.{noLink}
 use Rattle.reading.specs.declared.Reading.{Reading}
 use Rattle.reading.specs.Reader.{Reads}
 use Rattle.lines.specs.declared.Written.{Written}

@@ -42,7 +42,7 @@ use denote.Triple.Walked.{says, needs, Stays, stay-none-slice, stay-none, gave-s
 use denote.Exit.{yes}
 use Rattle.meaning.specs.declared.Link.{Link}
 use Rattle.meaning.specs.Judge.{first as first-of}
-use Rattle.placed.proofs.RecordsLink.{R}
+use Rattle.stored.proofs.RecordsLink.{R}
 use Rattle.lent.proofs.RecordsCalls.{calls-plain}
 use Rattle.lent.proofs.RecordsRead.{Own}
 use Rattle.runs.specs.declared.Answer.{Answer}
@@ -63,10 +63,10 @@ use Rattle.lent.proofs.Locals.{part-of, lends-front}
 use Rattle.lines.proofs.refusal.write_refused.Symbol as ref-def
 use Rattle.lines.proofs.refusal.write_refused.Symbol.{name as #refuse}
 use Rattle.lines.proofs.refusal.write_refused.Met as ref-thm
-use Rattle.lines.proofs.entries.size_of_run as siz
-use Rattle.lines.proofs.entries.size_of_run.Symbol as siz-def
-use Rattle.lines.proofs.entries.size_of_run.Symbol.{name as #size-of-run}
-use Rattle.lines.proofs.entries.size_of_run.Met as siz-thm
+use Rattle.cuts.proofs.size.size_of_run as siz
+use Rattle.cuts.proofs.size.size_of_run.Symbol as siz-def
+use Rattle.cuts.proofs.size.size_of_run.Symbol.{name as #size-of-run}
+use Rattle.cuts.proofs.size.size_of_run.Met as siz-thm
 use Rattle.answering.proofs.after_grouping.Key.{name as #after-grouping}
 use Rattle.answering.proofs.after_grouping as f
 use Rattle.answering.proofs.after_grouping.Statement as stated
@@ -227,6 +227,6 @@ after-grouping-spec 𝓤 H 𝓜 𝓖 𝓡 =
     (λ κs qs bounds a g are. needs 𝓤 _ _ (λ asked. walk 𝓤 H (𝓖 .A) W (𝓜 .mem) (𝓡 .run) (κs .0) (κs .1 .0) (κs .1 .1 .0) (qs .0) (qs .1 .0) (qs .1 .1 .0) (a .1 .0) (a .1 .1 .0) (a .1 .1 .1 .0) (a .1 .1 .1 .1 .0) (a .1 .1 .1 .1 .1 .0)
     (are .1 .0 .1) (are .1 .1 .0 .1) (are .1 .1 .1 .0 .0 .1) (are .1 .1 .1 .1 .0 .0 .1) (are .1 .1 .1 .1 .1 .0 .0 .1) 𝓣
     (cited 𝓤 H (Refuse 𝓤 H (𝓖 .A) (𝓜 .mem) (𝓡 .run)) 𝓜 𝓡 code.env #refuse ref-def.routine code.calls-lines·refusal·write-refused (ref-thm.met 𝓤 H 𝓜 𝓖 𝓡))
-    (cited 𝓤 H (SizeOf 𝓤 H (𝓖 .A) (𝓜 .mem) (𝓡 .run)) 𝓜 𝓡 code.env #size-of-run siz-def.routine code.calls-lines·entries·size-of-run (siz-thm.met 𝓤 H 𝓜 𝓖 𝓡))
+    (cited 𝓤 H (SizeOf 𝓤 H (𝓖 .A) (𝓜 .mem) (𝓡 .run)) 𝓜 𝓡 code.env #size-of-run siz-def.routine code.calls-cuts·size·size-of-run (siz-thm.met 𝓤 H 𝓜 𝓖 𝓡))
     (cited 𝓤 H (Result 𝓤 H (𝓖 .A) (𝓜 .mem) (𝓡 .run)) 𝓜 𝓡 code.env #write-result res-def.routine code.calls-texts·result·write-result (res-thm.met 𝓤 H 𝓜 𝓖 𝓡))
     (a .0) (are .0) asked))))

@@ -44,8 +44,8 @@ use denote.Exit.{yes}
 use Rattle.meaning.specs.declared.Link.{Link}
 use Rattle.meaning.proofs.Link as L
 use Rattle.meaning.proofs.Link.Laws as L′
-use Rattle.placed.specs.Records.{noLink}
-use Rattle.placed.proofs.RecordsLink.{R, val, vals, tells, no-link-is, typed, copied, made}
+use Rattle.stored.specs.Records.{noLink}
+use Rattle.stored.proofs.RecordsLink.{R, val, vals, tells, no-link-is, typed, copied, made}
 use Rattle.lent.proofs.RecordsCalls.{calls-to}
 use Rattle.reading.specs.declared.Reading.{Reading}
 use Rattle.lines.specs.declared.Written.{Written}

@@ -47,9 +47,9 @@ use Rattle.meaning.specs.declared.Judged.the-variants.{Accepted}
 use Rattle.meaning.specs.Judge.{first as first-of}
 use Rattle.links.specs.Links.{linksRows}
 use Rattle.pairs.specs.Table.{tallied}
-use Rattle.placed.specs.Records.{noLink}
+use Rattle.stored.specs.Records.{noLink}
 use Rattle.lent.proofs.RecordsRows.{tallied-take, tallied-no, ends-below}
-use Rattle.placed.proofs.RecordsLink.{R, link, typed, slice}
+use Rattle.stored.proofs.RecordsLink.{R, link, typed, slice}
 use Rattle.lent.proofs.RecordsRead.{Own, LinkOf, calls-link-of}
 use Rattle.lent.proofs.RecordsTable.{Table, tableRef, OwnTable, AddRecord, calls-add}
 use Rattle.lent.proofs.link_of.Symbol as at-def

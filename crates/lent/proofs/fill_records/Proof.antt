@@ -43,9 +43,9 @@ use Rattle.meaning.specs.declared.Judged.{Judged}
 use Rattle.meaning.specs.Judge.{first as first-of}
 use Rattle.links.specs.Links.{tableRows}
 use Rattle.pairs.specs.Table.{tallied, filled}
-use Rattle.placed.specs.Records.{upTo}
+use Rattle.stored.specs.Records.{upTo}
 use Rattle.lent.proofs.RecordsRows.{upTo-most, upTo-accepts, upTo-filled}
-use Rattle.placed.proofs.RecordsLink.{R, J, judged, told, IsJudged, told-so, typed-judged, made-judged}
+use Rattle.stored.proofs.RecordsLink.{R, J, judged, told, IsJudged, told-so, typed-judged, made-judged}
 use Rattle.lent.proofs.RecordsCalls.{calls-to, calls-plain, calls-over}
 use Rattle.lent.proofs.RecordsRead.{Own}
 use Rattle.lent.proofs.RecordsTable.{Table, OwnTable}

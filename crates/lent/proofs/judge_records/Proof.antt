@@ -49,9 +49,9 @@ use Rattle.meaning.specs.declared.Judged.{Judged}
 use Rattle.meaning.specs.declared.Judged.the-variants.{Accepted}
 use Rattle.meaning.specs.Judge.{first as first-of}
 use Rattle.links.specs.Links.{linkRows, countRows, tableRows}
-use Rattle.placed.specs.Records.{noLink, firstOf, upTo, refusedLinks, toJudge}
+use Rattle.stored.specs.Records.{noLink, firstOf, upTo, refusedLinks, toJudge}
 use Rattle.lent.proofs.RecordsRows.{soFar, soFar-none, soFar-next, judged-all, toJudge-most, upTo-few, upTo-most, upTo-4096, all-but, few-bones}
-use Rattle.placed.proofs.RecordsLink.{R, link, val, made, typed, J, judged, told, IsJudged, told-so, typed-judged, made-judged, slice}
+use Rattle.stored.proofs.RecordsLink.{R, link, val, made, typed, J, judged, told, IsJudged, told-so, typed-judged, made-judged, slice}
 use Rattle.lent.proofs.RecordsCalls.{calls-plain, calls-over}
 use Rattle.lent.proofs.RecordsRead.{Own, LinkAt, calls-link-at}
 use Rattle.links.proofs.judge_counts as counts
@@ -74,9 +74,9 @@ use Rattle.lent.proofs.to_judge as jud
 use Rattle.lent.proofs.to_judge.Symbol as jud-def
 use Rattle.lent.proofs.to_judge.Symbol.{name as #to-judge}
 use Rattle.lent.proofs.to_judge.Met as jud-thm
-use Rattle.placed.proofs.link_at.Symbol as at-def
-use Rattle.placed.proofs.link_at.Symbol.{name as #link-at}
-use Rattle.placed.proofs.link_at.Met as at-thm
+use Rattle.stored.proofs.link_at.Symbol as at-def
+use Rattle.stored.proofs.link_at.Symbol.{name as #link-at}
+use Rattle.stored.proofs.link_at.Met as at-thm
 use Rattle.lent.proofs.judge_next as nxt
 use Rattle.lent.proofs.judge_next.Symbol as nxt-def
 use Rattle.lent.proofs.judge_next.Symbol.{name as #judge-next}
@@ -270,5 +270,5 @@ judge-records-spec 𝓤 H 𝓜 𝓖 𝓡 =
     (cited 𝓤 H (Fewer 𝓤 H (𝓖 .A) (𝓜 .mem) (𝓡 .run)) 𝓜 𝓡 code.env #fewer-of fwr-def.routine code.calls-lent·fewer-of (fwr-thm.met 𝓤 H 𝓜 𝓖 𝓡))
     (cited 𝓤 H (Refused 𝓤 H (𝓖 .A) (𝓜 .mem) (𝓡 .run)) 𝓜 𝓡 code.env #refused-links ref-def.routine code.calls-lent·refused-links (ref-thm.met 𝓤 H 𝓜 𝓖 𝓡))
     (cited 𝓤 H (ToJudge 𝓤 H (𝓖 .A) (𝓜 .mem) (𝓡 .run)) 𝓜 𝓡 code.env #to-judge jud-def.routine code.calls-lent·to-judge (jud-thm.met 𝓤 H 𝓜 𝓖 𝓡))
-    (cited 𝓤 H (LinkAt 𝓤 H (𝓖 .A) (𝓜 .mem) (𝓡 .run)) 𝓜 𝓡 code.env #link-at at-def.routine code.calls-placed·link-at (at-thm.met 𝓤 H 𝓜 𝓖 𝓡))
+    (cited 𝓤 H (LinkAt 𝓤 H (𝓖 .A) (𝓜 .mem) (𝓡 .run)) 𝓜 𝓡 code.env #link-at at-def.routine code.calls-stored·link-at (at-thm.met 𝓤 H 𝓜 𝓖 𝓡))
     (cited 𝓤 H (Next 𝓤 H (𝓖 .A) (𝓜 .mem) (𝓡 .run)) 𝓜 𝓡 code.env #judge-next nxt-def.routine code.calls-lent·judge-next (nxt-thm.met 𝓤 H 𝓜 𝓖 𝓡))))))

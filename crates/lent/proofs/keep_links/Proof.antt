@@ -46,22 +46,22 @@ use denote.Triple.Table.{entered, cited}
 use denote.Triple.Walked.{says, Stays, stay-none-slice, stay-none-ref, stay-slice, walkOf, ends-at, walked, goes-none-slice, goes-none-ref, goes-slice, walk-meets}
 use denote.Exit.{yes}
 use Rattle.meaning.specs.declared.Link.{Link}
-use Rattle.placed.specs.Records.{noLink, sameLabel, keptLinks, written}
-use Rattle.placed.proofs.RecordsKept.{keptOf, kept-none, kept-all, kept-yes, kept-no, kept-most, written-yes, written-none, length-written}
-use Rattle.placed.proofs.RecordsLink.{R, link, val, IsLink, typed, made, slice}
+use Rattle.stored.specs.Records.{noLink, sameLabel, keptLinks, written}
+use Rattle.stored.proofs.RecordsKept.{keptOf, kept-none, kept-all, kept-yes, kept-no, kept-most, written-yes, written-none, length-written}
+use Rattle.stored.proofs.RecordsLink.{R, link, val, IsLink, typed, made, slice}
 use Rattle.lent.proofs.RecordsCalls.{calls-over}
 use Rattle.lent.proofs.RecordsRead.{Own, LinkAt, calls-link-at}
 use Rattle.lent.proofs.RecordsStore.{OwnOut, StoreLink, calls-store}
-use Rattle.placed.proofs.link_at.Symbol as at-def
-use Rattle.placed.proofs.link_at.Symbol.{name as #link-at}
-use Rattle.placed.proofs.link_at.Met as at-thm
-use Rattle.placed.proofs.same_label as same
-use Rattle.placed.proofs.same_label.Symbol as same-def
-use Rattle.placed.proofs.same_label.Symbol.{name as #same-label}
-use Rattle.placed.proofs.same_label.Met as same-thm
-use Rattle.placed.proofs.store_link.Symbol as store-def
-use Rattle.placed.proofs.store_link.Symbol.{name as #store-link}
-use Rattle.placed.proofs.store_link.Met as store-thm
+use Rattle.stored.proofs.link_at.Symbol as at-def
+use Rattle.stored.proofs.link_at.Symbol.{name as #link-at}
+use Rattle.stored.proofs.link_at.Met as at-thm
+use Rattle.stored.proofs.same_label as same
+use Rattle.stored.proofs.same_label.Symbol as same-def
+use Rattle.stored.proofs.same_label.Symbol.{name as #same-label}
+use Rattle.stored.proofs.same_label.Met as same-thm
+use Rattle.stored.proofs.store_link.Symbol as store-def
+use Rattle.stored.proofs.store_link.Symbol.{name as #store-link}
+use Rattle.stored.proofs.store_link.Met as store-thm
 use Rattle.lent.proofs.keep_links.Key.{name as #keep-links}
 use Rattle.lent.proofs.keep_links as f
 use Rattle.lent.proofs.keep_links.Statement as stated
@@ -255,6 +255,6 @@ keep-links-spec 𝓤 H 𝓜 𝓖 𝓡 =
     (λ κs. (slice-vals, (ptr-vals, (slice-vals, tt)))) (λ κs. (shr-slice-tells (named 0) (κs .0) R, (shr-tells (named 1) (κs .1 .0) Labels, (mut-slice-tells (named 2) (κs .1 .1 .0) R, tt))))
     (λ κs qs bounds a g are. via 𝓤 _ (fst∗ 𝓤 _ (emp 𝓤)) (walk 𝓤 H (𝓖 .A) W (𝓜 .mem) (𝓡 .run) (κs .0) (κs .1 .0) (κs .1 .1 .0) (qs .0) (qs .1 .0) (qs .1 .1 .0) (a .0) (a .1 .0)
     (a .1 .1 .0 .ptr .0) (a .1 .1 .0 .ptr .1) (a .1 .1 .0 .name) (a .1 .1 .0 .now) (are .0 .0 .1) (are .1 .1 .0 .0 .1) 𝓣
-    (cited 𝓤 H (LinkAt 𝓤 H (𝓖 .A) (𝓜 .mem) (𝓡 .run)) 𝓜 𝓡 code.env #link-at at-def.routine code.calls-placed·link-at (at-thm.met 𝓤 H 𝓜 𝓖 𝓡))
-    (cited 𝓤 H (SameLabel 𝓤 H (𝓖 .A) (𝓜 .mem) (𝓡 .run)) 𝓜 𝓡 code.env #same-label same-def.routine code.calls-placed·same-label (same-thm.met 𝓤 H 𝓜 𝓖 𝓡))
-    (cited 𝓤 H (StoreLink (a .1 .1 .0 .ptr .0) (a .1 .1 .0 .ptr .1) 𝓤 H (𝓖 .A) (𝓜 .mem) (𝓡 .run)) 𝓜 𝓡 code.env #store-link store-def.routine code.calls-placed·store-link (store-thm.met 𝓤 H 𝓜 𝓖 𝓡))))))
+    (cited 𝓤 H (LinkAt 𝓤 H (𝓖 .A) (𝓜 .mem) (𝓡 .run)) 𝓜 𝓡 code.env #link-at at-def.routine code.calls-stored·link-at (at-thm.met 𝓤 H 𝓜 𝓖 𝓡))
+    (cited 𝓤 H (SameLabel 𝓤 H (𝓖 .A) (𝓜 .mem) (𝓡 .run)) 𝓜 𝓡 code.env #same-label same-def.routine code.calls-stored·same-label (same-thm.met 𝓤 H 𝓜 𝓖 𝓡))
+    (cited 𝓤 H (StoreLink (a .1 .1 .0 .ptr .0) (a .1 .1 .0 .ptr .1) 𝓤 H (𝓖 .A) (𝓜 .mem) (𝓡 .run)) 𝓜 𝓡 code.env #store-link store-def.routine code.calls-stored·store-link (store-thm.met 𝓤 H 𝓜 𝓖 𝓡))))))

@@ -36,8 +36,8 @@ use denote.Triple.Table.{entered}
 use denote.Triple.Walked.{says, needs, Stays, stay-none-slice, stay-none, walkOf, ends-at, walked, goes-none-slice, goes-none, walk-meets}
 use denote.Exit.{yes}
 use Rattle.meaning.specs.declared.Link.{Link}
-use Rattle.placed.specs.Records.{noLink}
-use Rattle.placed.proofs.RecordsLink.{R, val, vals, IsLink, tells, far, typed, copied, made}
+use Rattle.stored.specs.Records.{noLink}
+use Rattle.stored.proofs.RecordsLink.{R, val, vals, IsLink, tells, far, typed, copied, made}
 use Rattle.lent.proofs.link_of.Key.{name as #link-of}
 use Rattle.lent.proofs.link_of as f
 use Rattle.lent.proofs.link_of.Statement as stated

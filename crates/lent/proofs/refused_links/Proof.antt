@@ -44,9 +44,9 @@ use denote.Triple.Table.{entered, cited}
 use denote.Triple.Walked.{says, needs, Stays, stay-none-slice, stay-none, walkOf, ends-at, walked, goes-none-slice, goes-none, walk-meets}
 use denote.Exit.{yes}
 use Rattle.meaning.specs.declared.Link.{Link}
-use Rattle.placed.specs.Records.{noLink, refusedOne, refusedLinks}
+use Rattle.stored.specs.Records.{noLink, refusedOne, refusedLinks}
 use Rattle.lent.proofs.RecordsRows.{refused-next, refused-most}
-use Rattle.placed.proofs.RecordsLink.{R, link, val, made, typed, slice}
+use Rattle.stored.proofs.RecordsLink.{R, link, val, made, typed, slice}
 use Rattle.lent.proofs.RecordsCalls.{calls-plain}
 use Rattle.lent.proofs.RecordsRead.{Own, LinkOf, calls-link-of}
 use Rattle.lent.proofs.link_of.Symbol as at-def

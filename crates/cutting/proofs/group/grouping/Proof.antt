@@ -4,7 +4,7 @@ use native.Mathlib.Omega.{arith}
 use lib.ListN.{length}
 use Rattle.links.proofs.LinksBytes.{linksOf-short}
 use Rattle.links.proofs.LinksRows.{first-accepted}
-use Rattle.runs.proofs.Told.{grouped-refused}
+use Rattle.runs.proofs.Answers.{grouped-refused}
 use Rattle.cutting.proofs.Carried.{counts-pass, filled-alike, grouping-core, grouping-stop, grouped-alike}
 use borrow.Author.Needs.{needs}
 use Rattle.cutting.proofs.group.grouping.Statement.{statement}

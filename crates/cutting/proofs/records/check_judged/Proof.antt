@@ -2,7 +2,7 @@
 use mathlib.Core.Path.{refl, _∙_}
 use Rattle.links.proofs.LinksRows.{first-accepted}
 use borrow.Author.Needs.{needs}
-use Rattle.runs.proofs.Told.{checked-refused}
+use Rattle.runs.proofs.Answers.{checked-refused}
 use Rattle.cutting.proofs.Carried.{checked-alike}
 use Rattle.cutting.proofs.Judged.{judged-accepted, judged-refused}
 use Rattle.cutting.proofs.records.check_judged.Statement.{statement}

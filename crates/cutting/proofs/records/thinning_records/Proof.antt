@@ -47,11 +47,11 @@ use Rattle.meaning.specs.declared.Judged.the-variants.{Accepted}
 use Rattle.meaning.specs.Judge.{first as first-of}
 use Rattle.meaning.specs.Firm.{label}
 use Rattle.links.specs.Links.{tableRows}
-use Rattle.placed.specs.Records.{keptLinks, written}
+use Rattle.stored.specs.Records.{keptLinks, written}
 use Rattle.pairs.specs.Side.{heapOf}
 use Rattle.pairs.specs.Table.{held, filled}
 use Rattle.links.proofs.LinksBytes.{Short}
-use Rattle.placed.proofs.RecordsLink.{R, judged, slice, IsJudged, told, typed-judged, made-judged}
+use Rattle.stored.proofs.RecordsLink.{R, judged, slice, IsJudged, told, typed-judged, made-judged}
 use Rattle.lent.proofs.RecordsCalls.{calls-plain}
 use Rattle.lent.proofs.RecordsRead.{Own}
 use Rattle.lent.proofs.RecordsShort.{learns-short}

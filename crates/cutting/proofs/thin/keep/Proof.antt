@@ -2,7 +2,7 @@
 use Prim.Native.Nat.{_/_, _-_}
 use native.Mathlib.Omega.{arith}
 use lib.ListN.{length}
-use Rattle.cutting.proofs.Keeping.{Keeping, keeping-start, keeping-proper, keeping-next, keeping-end}
+use Rattle.cutting.proofs.Keeping.{Keeping, keeping-start, keeping-next, keeping-end}
 use Rattle.cutting.proofs.thin.keep.Statement.{statement}
 use Rattle.cutting.proofs.thin.keep.Tie as tie
 
@@ -13,14 +13,13 @@ abbrev μ-loop : tie.MeasureT-loop
 μ-loop names links space₀ count kept₀ i₀ space kept i = length links / 4 - i
 
 loop-holds : tie.Need-loop-holds Inv-loop μ-loop
-loop-holds c = keeping-start _ _ _ (c .before .before .pre .0)
+loop-holds c = keeping-start _ _ _
 
 keep-link-requires : tie.Need-keep-link-requires Inv-loop μ-loop
 keep-link-requires c κs =
     let s = c .before .before .before .before .before in
     let head = c .before .before .loop in
-    let proper = keeping-proper _ _ _ _ _ _ (head .inv) (omega arith) in
-    ((omega arith, proper .first-end, proper .second-end), omega (arith, head .inv .most, head .inv .long, s .pre .1))
+    (omega arith, omega (arith, head .inv .most, head .inv .long, s .pre))
 
 add-i : tie.Need-add-i Inv-loop μ-loop
 add-i c = omega arith
@@ -32,7 +31,7 @@ loop-again : tie.Need-loop-again Inv-loop μ-loop
 loop-again c =
     let s = c .before .before .before .before .before .before .before .before in
     let head = c .before .before .before .before .before .loop in
-    keeping-next _ _ _ _ _ _ (head .inv) (omega arith) _ _ (s .pre .1) (λ j. omega (arith, c .before .before .before .before .before .before .before .shared-slice-known .given j)) (c .before .before .keep-link .ensures)
+    keeping-next _ _ _ _ _ _ (head .inv) (omega arith) _ _ (s .pre) (λ j. omega (arith, c .before .before .before .before .before .before .before .shared-slice-known .given j)) (c .before .before .keep-link .ensures)
 
 same-length : tie.Need-same-length Inv-loop μ-loop
 same-length c = omega (arith, c .before .loop .inv .long)

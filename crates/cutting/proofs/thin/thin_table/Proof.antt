@@ -2,7 +2,7 @@
 use native.Mathlib.Omega.{arith}
 use Rattle.links.specs.Links.{linksOf}
 use Rattle.links.proofs.LinksBytes.{length-linksOf}
-use Rattle.links.proofs.LinksRows.{counts-accepted, links-accepted, links-proper, propers-more}
+use Rattle.links.proofs.LinksRows.{counts-accepted, links-accepted}
 use Rattle.cutting.specs.Calls.{linkBytes}
 use Rattle.cutting.proofs.Keeping.{kept-same, kept-most, links-short, links-fit, thins-refused, thins-accepted}
 use borrow.Author.Needs.{needs}
@@ -18,10 +18,7 @@ name-groups-requires : tie.Need-name-groups-requires
 name-groups-requires c κs = c .before .before .before .before .pre .0
 
 keep-requires : tie.Need-keep-requires
-keep-requires c κs =
-    let s = c .before .before .before .before .before .before .before in
-    let links = linksOf (s .args .links .now) in
-    (links-proper 128 0 links (propers-more (s .args .n) 128 links (counts-accepted _ _ _ _ (s .pre .0) .few-bones) (links-accepted (s .args .n) 0 links (s .pre .2))), c .before .before .before .before .if1 .left)
+keep-requires c κs = c .before .before .before .before .if1 .left
 
 cast-t17 : tie.Need-cast-t17
 cast-t17 c =

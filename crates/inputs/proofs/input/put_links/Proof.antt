@@ -44,12 +44,12 @@ use denote.Triple.Table.{entered, cited}
 use denote.Triple.Walked.{says, needs, Stays, stay-none-slice, stay-none, stay-slice, walkOf, ends-at, walked, goes-none-slice, goes-none, goes-slice, walk-meets}
 use denote.Exit.{yes}
 use Rattle.meaning.specs.declared.Link.{Link}
-use Rattle.placed.specs.Records.{noLink}
-use Rattle.placed.proofs.RecordsLink.{R, link, typed, slice}
+use Rattle.stored.specs.Records.{noLink}
+use Rattle.stored.proofs.RecordsLink.{R, link, typed, slice}
 use Rattle.lent.proofs.RecordsRead.{Own, LinkAt, calls-link-at}
-use Rattle.placed.proofs.link_at.Symbol as at-def
-use Rattle.placed.proofs.link_at.Symbol.{name as #link-at}
-use Rattle.placed.proofs.link_at.Met as at-thm
+use Rattle.stored.proofs.link_at.Symbol as at-def
+use Rattle.stored.proofs.link_at.Symbol.{name as #link-at}
+use Rattle.stored.proofs.link_at.Met as at-thm
 use Rattle.inputs.proofs.WritesLinks.{linked, linked-none, linked-more, linked-long, linked-room}
 use Rattle.inputs.proofs.WritesLent.{OwnText}
 use Rattle.inputs.proofs.WritesRecord.{PutRecord, calls-put}
@@ -177,5 +177,5 @@ put-links-spec 𝓤 H 𝓜 𝓖 𝓡 =
     (walked 𝓤 H (𝓖 .A) f.ended stayed (f.clauses 𝓤 H (𝓖 .A) (𝓜 .mem) (𝓡 .run)) (WpFn 𝓤 H (𝓣 .C) (𝓣 .Λ) code.function) (λ κs. (slice-vals, (uint-vals w64, (slice-vals, tt)))) (λ κs. (shr-slice-tells (named 0) (κs .0) R, (uint-tells w64, (mut-slice-tells (named 1) (κs .1 .0) u8, tt))))
     (λ κs qs bounds a g are. needs 𝓤 _ _ (λ asked. walk 𝓤 H (𝓖 .A) W (𝓜 .mem) (𝓡 .run) (κs .0) (κs .1 .0) (qs .0) (qs .1 .0) (a .0) (a .1 .0) (a .1 .1 .0 .ptr .0) (a .1 .1 .0 .ptr .1) (a .1 .1 .0 .name) (a .1 .1 .0 .now)
     (are .0 .0 .1) (are .1 .0 .1) (are .1 .1 .0 .0 .1) (asked .0) (asked .1) 𝓣
-    (cited 𝓤 H (LinkAt 𝓤 H (𝓖 .A) (𝓜 .mem) (𝓡 .run)) 𝓜 𝓡 code.env #link-at at-def.routine code.calls-placed·link-at (at-thm.met 𝓤 H 𝓜 𝓖 𝓡))
+    (cited 𝓤 H (LinkAt 𝓤 H (𝓖 .A) (𝓜 .mem) (𝓡 .run)) 𝓜 𝓡 code.env #link-at at-def.routine code.calls-stored·link-at (at-thm.met 𝓤 H 𝓜 𝓖 𝓡))
     (cited 𝓤 H (PutRecord (a .1 .1 .0 .ptr .0) (a .1 .1 .0 .ptr .1) 𝓤 H (𝓖 .A) (𝓜 .mem) (𝓡 .run)) 𝓜 𝓡 code.env #put-record put-def.routine code.calls-inputs·input·put-record (put-thm.met 𝓤 H 𝓜 𝓖 𝓡))))))

@@ -44,8 +44,8 @@ use Rattle.meaning.specs.declared.Link.{Link}
 use Rattle.meaning.specs.declared.Judged.{Judged}
 use Rattle.meaning.specs.Judge.{first as first-of}
 use Rattle.links.specs.Links.{tableRows}
-use Rattle.placed.specs.Records.{firstOf}
-use Rattle.placed.proofs.RecordsLink.{R, J, judged, told, IsJudged, told-so, typed-judged, made-judged, slice}
+use Rattle.stored.specs.Records.{firstOf}
+use Rattle.stored.proofs.RecordsLink.{R, J, judged, told, IsJudged, told-so, typed-judged, made-judged, slice}
 use Rattle.lent.proofs.RecordsCalls.{calls-plain, calls-over}
 use Rattle.lent.proofs.RecordsRead.{Own}
 use Rattle.lent.proofs.judge_records as jud

@@ -39,7 +39,7 @@ use denote.Triple.Walked.{says, Stays, stay-none-slice, gave-slice, walkOf, ends
 use denote.Exit.{yes}
 use Rattle.meaning.specs.declared.Link.{Link}
 use Rattle.meaning.specs.Judge.{first as first-of}
-use Rattle.placed.proofs.RecordsLink.{R}
+use Rattle.stored.proofs.RecordsLink.{R}
 use Rattle.lent.proofs.RecordsCalls.{calls-to, calls-plain, calls-over}
 use Rattle.cuts.specs.Record.{entrySize}
 use Rattle.reading.specs.declared.Reading.{Reading}

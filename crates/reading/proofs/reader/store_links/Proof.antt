@@ -46,13 +46,13 @@ use denote.Triple.Table.{entered, cited}
 use denote.Triple.Walked.{says, needs, Stays, stay-none-slice, stay-none, stay-slice, walkOf, ends-at, walked, goes-none-slice, goes-none, goes-slice, walk-meets}
 use denote.Exit.{yes}
 use Rattle.meaning.specs.declared.Link.{Link}
-use Rattle.placed.specs.Records.{noLink}
-use Rattle.placed.proofs.RecordsLink.{R, link, val, IsLink, tells, typed}
+use Rattle.stored.specs.Records.{noLink}
+use Rattle.stored.proofs.RecordsLink.{R, link, val, IsLink, tells, typed}
 use Rattle.lent.proofs.RecordsCalls.{calls-over}
 use Rattle.lent.proofs.RecordsStore.{OwnOut, StoreLink, calls-store}
-use Rattle.placed.proofs.store_link.Symbol as store-def
-use Rattle.placed.proofs.store_link.Symbol.{name as #store-link}
-use Rattle.placed.proofs.store_link.Met as store-thm
+use Rattle.stored.proofs.store_link.Symbol as store-def
+use Rattle.stored.proofs.store_link.Symbol.{name as #store-link}
+use Rattle.stored.proofs.store_link.Met as store-thm
 use Rattle.reading.specs.Lines.{linesOf}
 use Rattle.reading.specs.Reader.{linksIn}
 use Rattle.reading.specs.Storing.{LinkAhead, LinkPast, Storable}
@@ -223,4 +223,4 @@ store-links-spec 𝓤 H 𝓜 𝓖 𝓡 =
     (are .0 .0 .1) (are .1 .0 .0 .1) (are .1 .1 .0 .1) asked 𝓣
     (cited 𝓤 H (LinkLine 𝓤 H (𝓖 .A) (𝓜 .mem) (𝓡 .run)) 𝓜 𝓡 code.env #link-line line-def.routine code.calls-reading·store·link-line (line-thm.met 𝓤 H 𝓜 𝓖 𝓡))
     (cited 𝓤 H (LinkBehind 𝓤 H (𝓖 .A) (𝓜 .mem) (𝓡 .run)) 𝓜 𝓡 code.env #link-past past-def.routine code.calls-reading·store·link-past (past-thm.met 𝓤 H 𝓜 𝓖 𝓡))
-    (cited 𝓤 H (StoreLink (a .1 .0 .ptr .0) (a .1 .0 .ptr .1) 𝓤 H (𝓖 .A) (𝓜 .mem) (𝓡 .run)) 𝓜 𝓡 code.env #store-link store-def.routine code.calls-placed·store-link (store-thm.met 𝓤 H 𝓜 𝓖 𝓡))))))
+    (cited 𝓤 H (StoreLink (a .1 .0 .ptr .0) (a .1 .0 .ptr .1) 𝓤 H (𝓖 .A) (𝓜 .mem) (𝓡 .run)) 𝓜 𝓡 code.env #store-link store-def.routine code.calls-stored·store-link (store-thm.met 𝓤 H 𝓜 𝓖 𝓡))))))

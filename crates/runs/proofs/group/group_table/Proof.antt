@@ -12,7 +12,7 @@ use Rattle.links.proofs.LinksRows.{Counted, counts-accepted, first-accepted, fi
 use Rattle.replay.specs.Rows.{recordRows}
 use Rattle.replay.proofs.Lawful.{few-rows}
 use Rattle.heaps.proofs.Parting.{judged-names}
-use Rattle.runs.proofs.Told.{label-short, label-fits, space-short, space-fits, grouped-refused, grouped-accepted}
+use Rattle.runs.proofs.Answers.{label-short, label-fits, space-short, space-fits, grouped-refused, grouped-accepted}
 use borrow.Author.Needs.{needs}
 use Rattle.runs.proofs.group.group_table.Statement.{statement}
 use Rattle.runs.proofs.group.group_table.Tie as tie

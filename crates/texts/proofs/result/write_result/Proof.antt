@@ -45,9 +45,9 @@ use Rattle.meaning.specs.declared.Link.{Link}
 use Rattle.meaning.specs.declared.Judged.{Judged}
 use Rattle.meaning.specs.Judge.{refuse, first as first-of}
 use Rattle.links.specs.Links.{tableRows}
-use Rattle.placed.specs.Records.{firstOf}
+use Rattle.stored.specs.Records.{firstOf}
 use Rattle.pairs.specs.Table.{held, filled}
-use Rattle.placed.proofs.RecordsLink.{R, J, told, IsJudged, typed-judged, made-judged}
+use Rattle.stored.proofs.RecordsLink.{R, J, told, IsJudged, typed-judged, made-judged}
 use Rattle.lent.proofs.RecordsCalls.{calls-to}
 use Rattle.lent.proofs.RecordsRead.{Own}
 use Rattle.lent.proofs.RecordsShort.{learns-short}

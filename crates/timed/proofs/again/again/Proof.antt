@@ -46,8 +46,8 @@ use Rattle.meaning.specs.declared.Link.{Link}
 use Rattle.meaning.proofs.Link as L
 use Rattle.meaning.proofs.Link.Laws as L′
 use Rattle.meaning.specs.Judge.{first as first-of}
-use Rattle.placed.specs.Records.{noLink}
-use Rattle.placed.proofs.RecordsLink.{R, val, vals, tells, no-link-is, typed, copied, made}
+use Rattle.stored.specs.Records.{noLink}
+use Rattle.stored.proofs.RecordsLink.{R, val, vals, tells, no-link-is, typed, copied, made}
 use Rattle.lent.proofs.RecordsCalls.{calls-to}
 use Rattle.reading.specs.Reader.{Reads}
 use Rattle.reading.proofs.Reading as Rd

@@ -47,7 +47,7 @@ use denote.Triple.Table.{entered, cited}
 use denote.Triple.Walked.{says, Stays, stay-none-slice, stay-none, stay-slice, walkOf, ends-at, walked, goes-none-slice, goes-none, goes-slice, walk-meets}
 use denote.Exit.{yes}
 use Rattle.meaning.specs.declared.Link.{Link}
-use Rattle.placed.proofs.RecordsLink.{R, slice}
+use Rattle.stored.proofs.RecordsLink.{R, slice}
 use Rattle.lent.proofs.RecordsCalls.{calls-to, calls-plain}
 use Rattle.lent.proofs.RecordsRead.{Own}
 use Rattle.lent.proofs.RecordsAgain.{LentAgain, lends-again, comes-back}

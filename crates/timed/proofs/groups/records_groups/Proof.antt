@@ -47,7 +47,7 @@ use denote.Exit.{yes}
 use Rattle.meaning.specs.declared.Link.{Link}
 use Rattle.meaning.proofs.Link as L
 use Rattle.meaning.proofs.Link.Laws as L′
-use Rattle.placed.proofs.RecordsLink.{R, vals, tells, copied, made}
+use Rattle.stored.proofs.RecordsLink.{R, vals, tells, copied, made}
 use Rattle.lent.proofs.RecordsCalls.{calls-to, calls-over}
 use Rattle.lent.proofs.Locals.{localTy, here, OwnShared, Back, lies-held, lends-shared, shared-room, part-of, lends-front}
 use Rattle.timed.specs.Groups.{recordsOf, Repeated}

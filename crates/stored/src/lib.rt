@@ -3,7 +3,7 @@
 use meaning::Link;
 ghost use mathlib.Core.Path.{_≡_};
 ghost use lib.ListN.{getD, set};
-ghost use Rattle.placed.specs.Records.{noLink, sameLabel};
+ghost use Rattle.stored.specs.Records.{noLink, sameLabel};
 
 // The link in place i; past the end, a link of noughts.
 pub fn link_at(links: &[Link], i: usize) -> Link

@@ -1,8 +1,8 @@
 // The bytes that the entries of a record take.
-use cuts::record::Record;
+use crate::record::Record;
 ghost use mathlib.Core.Path.{_≡_};
 ghost use Prim.Native.Nat.{_*_, _-_};
 ghost use Rattle.cuts.specs.Record.{entrySize};
 
 // The bytes of so many entries.
 pub fn size_of(cuts: u32) -> usize

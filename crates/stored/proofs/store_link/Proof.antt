@@ -1,4 +1,4 @@
--- `placed::store_link` meets its contract: a walk of its MIR, by hand. Within the run, the place of the link is computed, the borrow is
+-- `stored::store_link` meets its contract: a walk of its MIR, by hand. Within the run, the place of the link is computed, the borrow is
 -- opened, the link there is taken out of the row, stored to and put back, and the borrow is closed at the list with the new link in its place; past
 -- the end nothing is done, and that list is the same. Both arms meet in `ends`.
 -- Assumes nothing.
@@ -41,13 +41,13 @@ use denote.Triple.Table.{entered}
 use denote.Triple.Walked.{says, Stays, stay-slice, stay-none, walkOf, ends-at, walked, goes-slice, goes-none, walk-meets}
 use denote.Exit.{yes}
 use Rattle.meaning.specs.declared.Link.{Link}
-use Rattle.placed.specs.Records.{noLink}
-use Rattle.placed.proofs.RecordsLink.{R, link, val, vals, IsLink, tells, far, typed, made, slice}
-use Rattle.placed.proofs.store_link.Key.{name as #store-link}
-use Rattle.placed.proofs.store_link as f
-use Rattle.placed.proofs.store_link.Statement as stated
-use Rattle.placed.proofs.store_link.Code as code
-use Rattle.placed.proofs.store_link.Code.Mir as m
+use Rattle.stored.specs.Records.{noLink}
+use Rattle.stored.proofs.RecordsLink.{R, link, val, vals, IsLink, tells, far, typed, made, slice}
+use Rattle.stored.proofs.store_link.Key.{name as #store-link}
+use Rattle.stored.proofs.store_link as f
+use Rattle.stored.proofs.store_link.Statement as stated
+use Rattle.stored.proofs.store_link.Code as code
+use Rattle.stored.proofs.store_link.Code.Mir as m
 
 abbrev stayed : Stays (f.ended .signature .params) (f.ended .kept)
 stayed = (stay-slice (0 ∷ []) tt (plain (λ _. R)), (stay-none (λ _. usize) yes, (stay-none (λ _. R) yes, tt)))

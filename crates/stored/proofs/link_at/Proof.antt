@@ -1,4 +1,4 @@
--- `placed::link_at` meets its contract: a walk of its MIR, by hand. Within the run, the place of the link is computed, the slice is
+-- `stored::link_at` meets its contract: a walk of its MIR, by hand. Within the run, the place of the link is computed, the slice is
 -- looked into, the link is taken out of the row, read, and put back; past the end, the link of noughts is made. Both arms meet in `ends`.
 -- Assumes nothing.
 use mathlib.Core.Path.{_≡_, refl, sym}
@@ -40,13 +40,13 @@ use denote.Triple.Table.{entered}
 use denote.Triple.Walked.{says, Stays, stay-none-slice, stay-none, walkOf, ends-at, walked, goes-none-slice, goes-none, walk-meets}
 use denote.Exit.{yes}
 use Rattle.meaning.specs.declared.Link.{Link}
-use Rattle.placed.specs.Records.{noLink}
-use Rattle.placed.proofs.RecordsLink.{R, link, val, vals, IsLink, tells, no-link-is, far, typed, copied, made, slice}
-use Rattle.placed.proofs.link_at.Key.{name as #link-at}
-use Rattle.placed.proofs.link_at as f
-use Rattle.placed.proofs.link_at.Statement as stated
-use Rattle.placed.proofs.link_at.Code as code
-use Rattle.placed.proofs.link_at.Code.Mir as m
+use Rattle.stored.specs.Records.{noLink}
+use Rattle.stored.proofs.RecordsLink.{R, link, val, vals, IsLink, tells, no-link-is, far, typed, copied, made, slice}
+use Rattle.stored.proofs.link_at.Key.{name as #link-at}
+use Rattle.stored.proofs.link_at as f
+use Rattle.stored.proofs.link_at.Statement as stated
+use Rattle.stored.proofs.link_at.Code as code
+use Rattle.stored.proofs.link_at.Code.Mir as m
 
 abbrev stayed : Stays (f.ended .signature .params) (f.ended .kept)
 stayed = (stay-none-slice (0 ∷ []) tt (plain (λ _. R)) yes, (stay-none (λ _. usize) yes, tt))

@@ -1,8 +1,8 @@
--- `placed::same_label` meets its contract, by cases on whether each end has a label. Assumes nothing.
+-- `stored::same_label` meets its contract, by cases on whether each end has a label. Assumes nothing.
 use borrow.Author.Needs.{needs}
-use Rattle.placed.proofs.RecordsKept.{same-below, same-not-a, same-not-b}
-use Rattle.placed.proofs.same_label.Statement.{statement}
-use Rattle.placed.proofs.same_label.Tie as tie
+use Rattle.stored.proofs.RecordsKept.{same-below, same-not-a, same-not-b}
+use Rattle.stored.proofs.same_label.Statement.{statement}
+use Rattle.stored.proofs.same_label.Tie as tie
 
 cast-a : tie.Need-cast-a
 cast-a c = search needs

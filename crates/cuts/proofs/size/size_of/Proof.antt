@@ -1,8 +1,8 @@
--- `entries::size_of` meets its contract. Assumes nothing.
+-- `size::size_of` meets its contract. Assumes nothing.
 use borrow.Author.Needs.{needs}
 use native.Mathlib.Omega.{arith}
-use Rattle.lines.proofs.entries.size_of.Statement.{statement}
-use Rattle.lines.proofs.entries.size_of.Tie as tie
+use Rattle.cuts.proofs.size.size_of.Statement.{statement}
+use Rattle.cuts.proofs.size.size_of.Tie as tie
 
 mul-result : tie.Need-mul-result
 mul-result c = search needs

@@ -12,7 +12,7 @@ use lib.ListN.{length, getD, set, take, length-append}
 use lib.Seq.{sets, length-sets, take-suc, take-length, length-take-le}
 use borrow.Author.Tests.{lt-ltb, le-ltb}
 use Rattle.meaning.specs.declared.Link.{Link}
-use Rattle.placed.specs.Records.{noLink, sameLabel, keptLinks, written}
+use Rattle.stored.specs.Records.{noLink, sameLabel, keptLinks, written}
 
 pub take-next : (links : List Link) (i : ℕ) → i < length links → take (i + 1) links ≡ take i links ++ getD links i noLink ∷ []
 take-next links i h = rw add-one (take-suc links i noLink h)

@@ -27,7 +27,7 @@ use Rattle.meaning.proofs.Link.Laws as L′
 use Rattle.meaning.specs.declared.Judged.{Judged}
 use Rattle.meaning.proofs.Judged as Jd
 use Rattle.meaning.proofs.Judged.Laws as Jd′
-use Rattle.placed.specs.Records.{noLink}
+use Rattle.stored.specs.Records.{noLink}
 
 abbrev pub R : RattleType
 R = L.the-row
