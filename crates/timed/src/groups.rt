@@ -3,13 +3,13 @@
 use cutting::Answer;
 use cutting::grouping;
 use cutting::grouping_records;
-use links::tally_of;
+use links::link_at;
 use meaning::Link;
 ghost use mathlib.Core.Path.{_≡_};
 ghost use mathlib.Core.Bool.{true};
-ghost use Prim.Native.Nat.{_+_, _*_, _/_, _≤_, min};
+ghost use Prim.Native.Nat.{_/_, min};
 ghost use lib.ListN.{length, take};
-ghost use Rattle.links.specs.Links.{whole, linksOf, linkAt};
+ghost use Rattle.links.specs.Links.{whole, linksOf};
 ghost use Rattle.timed.specs.Groups.{groupsOf, recordsOf, Repeated};
 
 // The number of groups, nought where the call refused.
@@ -76,20 +76,6 @@ fn links_in(links: &[u8]) -> usize
     if count < 4096 { count } else { 4096 }
 }
 
-// The link in place i of a run of bytes.
-fn link_in(links: &[u8], i: usize) -> Link
-    requires { ⌜ i * 4 + 4 ≤ length (now links) ⌝ }
-    ensures { λ r. ⌜ r ≡ linkAt (now (links .entry)) i ⌝ }
-{
-    let at = i * 4;
-    let tally = tally_of(links[at + 2], links[at + 3]);
-    Link {
-        a: links[at],
-        b: links[at + 1],
-        tally,
-    }
-}
-
 // The links of a run of bytes, as records at the front of room for the most.
 fn records_of(links: &[u8]) -> [Link; 4096]
     ensures { λ r. ⌜ take (min (length (now (links .entry)) / 4) 4096) r ≡ recordsOf (now (links .entry)) ⌝ }
@@ -103,7 +89,7 @@ fn records_of(links: &[u8]) -> [Link; 4096]
     let count = links_in(links);
     let mut i = 0;
     while i < count {
-        records[i] = link_in(links, i);
+        records[i] = link_at(links, i);
         i += 1;
     }
     records

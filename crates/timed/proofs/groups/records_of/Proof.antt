@@ -22,8 +22,8 @@ links-in-requires c κs = search needs
 loop-holds : tie.Need-loop-holds Inv-loop μ-loop
 loop-holds c = (zero-le, refl, refl)
 
-link-in-requires : tie.Need-link-in-requires Inv-loop μ-loop
-link-in-requires c κs = omega arith
+link-at-requires : tie.Need-link-at-requires Inv-loop μ-loop
+link-at-requires c κs = search needs
 
 mul-records : tie.Need-mul-records Inv-loop μ-loop
 mul-records c = omega arith
@@ -41,8 +41,8 @@ loop-again : tie.Need-loop-again Inv-loop μ-loop
 loop-again c =
     let head = c .before .before .loop in (
       omega arith,
-      length-set (head .records) (head .i) (c .link-in .result) ∙ head .inv .1,
-      record-next _ (head .records) (head .i) _ (omega arith) (omega arith) (c .link-in .ensures) (head .inv .2),
+      length-set (head .records) (head .i) (c .link-at .result) ∙ head .inv .1,
+      record-next _ (head .records) (head .i) _ (omega arith) (omega arith) (c .link-at .ensures) (head .inv .2),
     )
 
 returns : tie.Need-returns Inv-loop μ-loop
@@ -60,7 +60,7 @@ records-of-spec =
     μ-loop
     links-in-requires
     loop-holds
-    link-in-requires
+    link-at-requires
     mul-records
     array-set-from-records
     add-i

@@ -1,10 +1,10 @@
--- `weighing_cases::searched_many` lends a part of the list that is within it. Assumes nothing.
+-- `bench_cases::searched_many` lends a part of the list that is within it. Assumes nothing.
 use mathlib.Core.Path.{sym}
 use native.Mathlib.Omega.{arith}
 use lib.Seq.{length-take-le}
 use borrow.Author.Needs.{needs}
-use Rattle.weighing_cases.proofs.searched_many.Statement.{statement}
-use Rattle.weighing_cases.proofs.searched_many.Tie as tie
+use Rattle.bench_cases.proofs.searched_many.Statement.{statement}
+use Rattle.bench_cases.proofs.searched_many.Tie as tie
 
 list-requires : tie.Need-list-requires
 list-requires c κs = search needs

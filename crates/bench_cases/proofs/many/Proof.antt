@@ -1,10 +1,10 @@
--- `weighing_cases::many` lends parts of the list that are within it. Assumes nothing.
+-- `bench_cases::many` lends parts of the list that are within it. Assumes nothing.
 use mathlib.Core.Path.{sym}
 use native.Mathlib.Omega.{arith}
 use lib.Seq.{length-take-le}
 use borrow.Author.Needs.{needs}
-use Rattle.weighing_cases.proofs.many.Statement.{statement}
-use Rattle.weighing_cases.proofs.many.Tie as tie
+use Rattle.bench_cases.proofs.many.Statement.{statement}
+use Rattle.bench_cases.proofs.many.Tie as tie
 
 list-requires : tie.Need-list-requires
 list-requires c κs = search needs

@@ -1,11 +1,11 @@
--- `weighing_cases::list` meets its contract: every store keeps the length. Assumes nothing.
+-- `bench_cases::list` meets its contract: every store keeps the length. Assumes nothing.
 use Prim.Native.Nat.{ℕ, _≤_, _-_, zero-le}
 use mathlib.Core.Path.{_≡_, sym}
 use native.Mathlib.Omega.{arith}
 use borrow.Author.Needs.{needs}
 use lib.ListN.{length, length-set, length-replicate}
-use Rattle.weighing_cases.proofs.list.Statement.{statement}
-use Rattle.weighing_cases.proofs.list.Tie as tie
+use Rattle.bench_cases.proofs.list.Statement.{statement}
+use Rattle.bench_cases.proofs.list.Tie as tie
 
 abbrev Inv-loop : tie.InvT-loop
 Inv-loop round links₀ q₀ links q = (q ≤ 4097) × (length links ≡ 16388)

@@ -1,9 +1,10 @@
-// The bench cases that concern the table, the weight of a side and the search, run and printed. A line is a case: the refusal's number and
+// The bench cases that concern the table, the weight of a side, the search and the groups, run and printed. A line is a case: the refusal's number and
 // place (0 0 where the links are accepted), then the weight of one side of one pile by the table, which starts at nought; in the lines
-// of the search 1, the pile, the weight and the first eight bones of a light split, or noughts where every pile is firm. Each of these
-// has one light split at most.
+// of the search 1, the pile, the weight and the first eight bones of a light split, or noughts where every pile is firm, and then the number of groups.
+// Each of these has one light split at most.
 use libc::STDOUT_FILENO;
 use meaning::Judged;
+use runs::Answer;
 ghost use mathlib.Core.Path.{_≡_};
 ghost use lib.ListN.{length};
 
@@ -60,6 +61,19 @@ fn wide(x: u8) -> u64 {
     x as u64
 }
 
+// The number of groups, which no name that is given changes; nought where n or k is refused.
+fn groups(table: &[u32; 16384], n: u64, k: u64) -> u64 {
+    let mut labels = [0u8; 128];
+    let mut space = [0u8; 2667];
+    match runs::group_table(table, n, k, b"", &mut labels, &mut space) {
+        Answer::Gave { count, finished: _ } => count as u64,
+        Answer::Refused {
+            number: _,
+            place: _,
+        } => 0,
+    }
+}
+
 fn seek(n: u64, k: u64, links: &[u8], names: &[u8; 128]) {
     let mut table = [0u32; 16384];
     say(weighing::fill(n, k, links, &mut table));
@@ -73,6 +87,8 @@ fn seek(n: u64, k: u64, links: &[u8], names: &[u8; 128]) {
     io::print_decimal(STDOUT_FILENO, split.weight);
     space();
     io::print_decimal(STDOUT_FILENO, wide(side[0]));
+    space();
+    io::print_decimal(STDOUT_FILENO, groups(&table, n, k));
     line();
 }
 
