@@ -4,6 +4,7 @@ pub mod numbers;
 mod rules;
 
 pub use blocks::single;
+pub use rules::is_settled;
 pub use rules::is_short;
 pub use rules::of_pile;
 pub use rules::out_with;

@@ -39,3 +39,10 @@ pub fn out_with(out: u64, degree: u32, tie: u64) -> u64
     let rest = std::num::wrapping_sub_u64(all, tie);
     std::num::wrapping_sub_u64(rest, tie)
 }
+
+// Whether a pile is settled: a light side of it is found, or it is one block. Else there is a pass to come.
+pub fn is_settled(light: bool, one: bool) -> bool
+    ensures { λ r. ⌜ r ≡ (light || one) ⌝ }
+{
+    light || one
+}

@@ -3,6 +3,7 @@ use crate::moved::side_of;
 use crate::pass::pass;
 use growing::grow::Outcome;
 use growing::grow::grow;
+use joining::is_settled;
 use joining::numbers::bone;
 ghost use mathlib.Core.Path.{_≡_};
 ghost use mathlib.Core.Bool.{true, false};
@@ -49,10 +50,7 @@ fn settle(
     loop {
         let light = got.light;
         let one = got.one;
-        if light {
-            return got;
-        }
-        if one {
+        if is_settled(light, one) {
             return got;
         }
         got = pass(table, names, n, k, p, block, free);

@@ -2,9 +2,10 @@
 -- Assumes nothing.
 use Prim.Native.Nat.{ℕ, _+_, _<_}
 use mathlib.Core.Path.{_≡_, refl, sym, _∙_, subst}
-use mathlib.Core.Bool.{Bool, true, false}
+use mathlib.Core.Bool.{Bool, true, false, _||_}
 use native.Mathlib.Omega.{arith}
 use lib.Dec.{T}
+use borrow.Author.Needs.{needs}
 use Rattle.meaning.specs.Heap.{pile, stands}
 use Rattle.meaning.proofs.Heaps.{pile-bone, pile-name}
 use Rattle.pairs.specs.Table.{held}
@@ -42,11 +43,20 @@ loop-holds c =
     let h = heapOf (s .args .names .now) in
     c .grow .ensures .0 (seen-intro (s .args .n) h (s .args .p) (s .pre .0) (pile-bone (s .args .n) h (s .args .p) (s .args .p) (s .pre .1)) (pile-name (s .args .n) h (s .args .p) (s .args .p) (s .pre .1)))
 
-returns : tie.Need-returns Inv-loop μ-loop
-returns c = (c .before .loop .inv, λ e. absurd (subst T (sym (c .if1 .taken) ∙ e) tt))
+is-settled-requires : tie.Need-is-settled-requires Inv-loop μ-loop
+is-settled-requires c κs = search needs
 
-returns-2 : tie.Need-returns-2 Inv-loop μ-loop
-returns-2 c = (c .before .before .loop .inv, λ e. c .if2 .taken)
+-- what a test of either tells of the two
+not-first : (x y : Bool) → (x || y) ≡ true → x ≡ false → y ≡ true
+not-first true y e f = absurd (subst T f tt)
+not-first false y e f = e
+
+neither : (x y : Bool) → (x || y) ≡ false → (x ≡ false) × (y ≡ false)
+neither true y e = absurd (subst T e tt)
+neither false y e = (refl, e)
+
+returns : tie.Need-returns Inv-loop μ-loop
+returns c = (c .before .before .loop .inv, not-first _ _ (sym (c .before .is-settled .ensures) ∙ c .if1 .taken))
 
 pass-requires : tie.Need-pass-requires Inv-loop μ-loop
 pass-requires c κs =
@@ -65,7 +75,8 @@ settles false false false false m m′ e f fewer = omega (arith, fewer refl refl
 loop-less : tie.Need-loop-less Inv-loop μ-loop
 loop-less c =
     let l = c .before .before .before .before .before .loop in
-    settles (l .got .light) (l .got .one) (c .pass .result .light) (c .pass .result .one) _ _ (c .before .before .before .before .if1 .left) (c .before .before .before .if2 .left) (c .pass .ensures .fewer)
+    let none = neither _ _ (sym (c .before .before .before .before .is-settled .ensures) ∙ c .before .before .before .if1 .left) in
+    settles (l .got .light) (l .got .one) (c .pass .result .light) (c .pass .result .one) _ _ (none .0) (none .1) (c .pass .ensures .fewer)
 
 loop-again : tie.Need-loop-again Inv-loop μ-loop
 loop-again c = known-passed (c .before .before .before .before .before .loop .inv) (c .pass .ensures)
@@ -78,8 +89,8 @@ settle-spec =
     μ-loop
     grow-requires
     loop-holds
+    is-settled-requires
     returns
-    returns-2
     pass-requires
     loop-less
     loop-again)
