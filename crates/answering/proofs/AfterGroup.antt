@@ -20,15 +20,14 @@ use Rattle.meaning.proofs.Theorems.{links-symmetric, can-finish, cuts-and-group
 use Rattle.links.specs.Links.{tableRows}
 use Rattle.stored.specs.Records.{firstOf}
 use Rattle.links.proofs.LinksRows.{table-counted, accepted-left, accepted-right}
-use Rattle.runs.specs.declared.Answer.{Answer}
+use Rattle.cutting.specs.declared.Answer.{Answer}
 use Rattle.cuts.specs.Record.{entrySize, cutsOf}
 use Rattle.replay.specs.Rows.{recordRows}
-use Rattle.runs.specs.Rows.{labelRow, spaceRow}
-use Rattle.cutting.specs.Rows.{groupingRows}
-use Rattle.runs.specs.Runs.{answered, Recorded, Continued}
+use Rattle.cutting.specs.Rows.{labelRow, spaceRow, groupingRows}
+use Rattle.cutting.specs.Runs.{answered, Recorded, Continued}
 use Rattle.cutting.specs.Calls.{Grouping}
 use Rattle.cuts.proofs.Cuts.{length-cuts}
-use Rattle.runs.proofs.Continuing.{Sound, record-sound}
+use Rattle.cutting.proofs.Continuing.{Sound, record-sound}
 use Rattle.cutting.proofs.Demands.{own, own-sound}
 use Rattle.replay.proofs.Lawful.{record-fits, lawful-entries}
 use Rattle.lines.specs.declared.Written.{Written}

@@ -13,10 +13,10 @@ use types.Kit.{Given}
 use denote.RattleType.{RattleType}
 use denote.Laws.{Is, Tells, Makes}
 use denote.Enum.Laws as EL
-use Rattle.runs.specs.declared.Answer.{Answer}
-use Rattle.runs.specs.declared.Answer.the-variants.{Gave, Refused}
-use Rattle.runs.proofs.Answer as Ans
-use Rattle.runs.proofs.Answer.Laws as Ans′
+use Rattle.cutting.specs.declared.Answer.{Answer}
+use Rattle.cutting.specs.declared.Answer.the-variants.{Gave, Refused}
+use Rattle.cutting.proofs.Answer as Ans
+use Rattle.cutting.proofs.Answer.Laws as Ans′
 
 abbrev pub An : RattleType
 An = Ans.the-row

@@ -21,8 +21,7 @@ use Rattle.links.specs.Links.{linkRows, linksRows, countRows, tableRows}
 use Rattle.links.proofs.LinksRows.{table-counted}
 use Rattle.cuts.specs.Record.{entrySize, cutsIn, cutsOf}
 use Rattle.replay.specs.Rows.{recordRow, recordRows, entryRows, entriesRows}
-use Rattle.runs.specs.Rows.{labelRow, spaceRow}
-use Rattle.cutting.specs.Rows.{groupingRows}
+use Rattle.cutting.specs.Rows.{labelRow, spaceRow, groupingRows}
 use Rattle.cuts.proofs.Cuts.{length-cuts}
 use Rattle.stages.specs.declared.stage.Stage.{Stage}
 use Rattle.stages.specs.declared.stage.Stage.the-variants.{Opening}

@@ -4,8 +4,8 @@ use mathlib.Core.List.{List}
 use lib.ListN.{length, take}
 use Rattle.meaning.specs.declared.Link.{Link}
 use Rattle.meaning.specs.Judge.{first}
-use Rattle.runs.specs.declared.Answer.{Answer}
-use Rattle.runs.specs.declared.Answer.the-variants.{Gave, Refused as Refused·answer}
+use Rattle.cutting.specs.declared.Answer.{Answer}
+use Rattle.cutting.specs.declared.Answer.the-variants.{Gave, Refused as Refused·answer}
 use Rattle.cuts.specs.Record.{entrySize}
 use Rattle.reading.specs.declared.Reading.{Reading}
 use Rattle.reading.specs.declared.Reading.the-variants.{Got, Refused as Refused·reading}

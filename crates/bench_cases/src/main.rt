@@ -2,9 +2,9 @@
 // place (0 0 where the links are accepted), then the weight of one side of one pile by the table, which starts at nought; in the lines
 // of the search 1, the pile, the weight and the first eight bones of a light split, or noughts where every pile is firm, and then the number of groups.
 // Each of these has one light split at most.
+use cutting::Answer;
 use libc::STDOUT_FILENO;
 use meaning::Judged;
-use runs::Answer;
 ghost use mathlib.Core.Path.{_≡_};
 ghost use lib.ListN.{length};
 
@@ -61,11 +61,11 @@ fn wide(x: u8) -> u64 {
     x as u64
 }
 
-// The number of groups, which no name that is given changes; nought where n or k is refused.
-fn groups(table: &[u32; 16384], n: u64, k: u64) -> u64 {
+// The number of groups, which no name that is given changes; nought where anything is refused.
+fn groups(n: u64, k: u64, links: &[u8]) -> u64 {
     let mut labels = [0u8; 128];
     let mut space = [0u8; 2667];
-    match runs::group_table(table, n, k, b"", &mut labels, &mut space) {
+    match cutting::grouping(n, k, links, b"", &mut labels, &mut space) {
         Answer::Gave { count, finished: _ } => count as u64,
         Answer::Refused {
             number: _,
@@ -77,7 +77,7 @@ fn groups(table: &[u32; 16384], n: u64, k: u64) -> u64 {
 fn seek(n: u64, k: u64, links: &[u8], names: &[u8; 128]) {
     let mut table = [0u32; 16384];
     say(weighing::fill(n, k, links, &mut table));
-    let split = weighing::search::search(&table, names, n as usize, k, 0);
+    let split = weighing::search::search(&mut table, names, n as usize, k, 0);
     let side = split.side;
     space();
     io::print_decimal(STDOUT_FILENO, one_if(split.light));
@@ -88,7 +88,7 @@ fn seek(n: u64, k: u64, links: &[u8], names: &[u8; 128]) {
     space();
     io::print_decimal(STDOUT_FILENO, wide(side[0]));
     space();
-    io::print_decimal(STDOUT_FILENO, groups(&table, n, k));
+    io::print_decimal(STDOUT_FILENO, groups(n, k, links));
     line();
 }
 

@@ -1,8 +1,8 @@
 -- What a call from C tells of each answer, in numbers.
 use mathlib.Core.Path.{_≡_}
 use mathlib.Core.Bool.{cond}
-use Rattle.runs.specs.declared.Answer.{Answer}
-use Rattle.runs.specs.declared.Answer.the-variants.{Gave, Refused}
+use Rattle.cutting.specs.declared.Answer.{Answer}
+use Rattle.cutting.specs.declared.Answer.the-variants.{Gave, Refused}
 use Rattle.calls.specs.declared.Told.{Told}
 
 -- the refusal's number and place, and nought twice; or nought twice, the number of groups or piles, and 1 exactly if the run is finished

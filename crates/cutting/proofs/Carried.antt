@@ -1,12 +1,12 @@
 -- From a table to the links that fill it: what a core promises of the table's tally is what the call promises of the links'.
 -- Assumes nothing.
 use Prim.Native.Nat.{ℕ, _*_, _-_}
-use mathlib.Core.Path.{_≡_, sym, _∙_, ap, ap₂, subst}
-use mathlib.Core.Bool.{Bool, true}
+use mathlib.Core.Path.{_≡_, refl, sym, _∙_, ap, ap₂, subst}
+use mathlib.Core.Bool.{Bool, true, not}
 use mathlib.Core.List.{List, _∷_}
 use native.Mathlib.Omega.{arith}
-use lib.Dec.{T}
-use lib.ListN.{length, take, drop, replicate}
+use lib.Dec.{T, eqb}
+use lib.ListN.{length, take, drop, replicate, length-replicate}
 use borrow.Author.Tests.{le-ltb, ne-eqb}
 use Rattle.meaning.specs.declared.Link.{Link}
 use Rattle.meaning.specs.declared.Judged.{Judged}
@@ -15,18 +15,20 @@ use Rattle.meaning.specs.Judge.{refuse, first}
 use Rattle.meaning.specs.Tally.{Tally, pairTally}
 use Rattle.meaning.specs.Firm.{groups}
 use Rattle.meaning.specs.Heap.{Heap, start, LawfulRun, left, piles, finished}
+use Rattle.meaning.proofs.Totals.{total-same}
 use Rattle.links.specs.Links.{countRows, tableRows}
 use Rattle.pairs.specs.Table.{held, filled}
 use Rattle.links.proofs.LinksBytes.{Short}
-use Rattle.links.proofs.LinksRows.{Counted, table-counted, first-accepted, first-refused}
+use Rattle.links.proofs.LinksRows.{Counted, table-counted, table-proper, first-accepted, first-refused}
 use Rattle.pairs.proofs.TableHeld.{table-holds}
-use Rattle.runs.specs.declared.Answer.{Answer}
+use Rattle.weighing.specs.Search.{Small}
+use Rattle.cutting.specs.declared.Answer.{Answer}
 use Rattle.cuts.specs.Record.{entrySize, cutsOf}
 use Rattle.replay.specs.Rows.{recordRow, recordRows}
-use Rattle.runs.specs.Rows.{labelRow, spaceRow}
-use Rattle.cutting.specs.Rows.{checkingRows, groupingRows}
+use Rattle.cutting.specs.Rows.{labelRow, spaceRow, checkingRows, groupingRows}
 use Rattle.heaps.specs.Names.{settled, written}
-use Rattle.runs.specs.Runs.{answered, Checked, Continued, Recorded, Grouped}
+use Rattle.cutting.specs.Runs.{answered, Checked, Continued, Recorded, Grouped}
+use Rattle.cutting.proofs.Small.{links-total, length-tallied}
 use Rattle.cutting.proofs.Alike.{Alike, label-alike, groups-alike, finished-alike, entries-alike, run-alike}
 
 module _ (n : ℕ) (v w : Tally) (alike : Alike n v w) (k : ℕ) where
@@ -83,6 +85,19 @@ module _ (n k : ℕ) (good : Bool) (links : List Link) (r : Judged) (judged : r 
   filled-alike t e short i j hi hj =
       ap (λ (x : List ℕ). held x i j) (e ∙ ap (λ (x : Judged). filled x (replicate 16384 0) links) accepted)
       ∙ table-holds n k good links (sym judged ∙ accepted) short i j hi hj
+
+  pub filled-small : (t : List ℕ) → t ≡ filled r (replicate 16384 0) links → Short links → Small n t
+  unfolding filled
+  filled-small t e short =
+      record {
+        long = ap length (e ∙ ap (λ (x : Judged). filled x (replicate 16384 0) links) accepted) ∙ length-tallied links (replicate 16384 0) ∙ length-replicate {A = ℕ} 16384 0;
+        sums = omega (
+          arith,
+          total-same n (held t) (pairTally links) (λ i j. not (eqb i j)) (λ i j. not (eqb i j)) (filled-alike t e short) (λ i j hi hj. refl),
+          links-total n links (λ i j. not (eqb i j)) (table-proper n k good links (sym judged ∙ accepted)) short,
+          filled-counted .few-links,
+        );
+      }
 
 -- ---- the rows of a call: those of the links, and then those of a core
 

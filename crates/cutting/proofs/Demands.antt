@@ -19,23 +19,23 @@ use Rattle.meaning.proofs.Tallies.{pairTally-symmetric}
 use Rattle.meaning.proofs.Ends.{weights-between}
 use Rattle.links.specs.Links.{tableRows}
 use Rattle.links.proofs.LinksRows.{Counted, table-counted}
-use Rattle.runs.specs.declared.Answer.{Answer}
-use Rattle.runs.specs.declared.Answer.the-variants.{Gave, Refused as Refused·answer}
+use Rattle.cutting.specs.declared.Answer.{Answer}
+use Rattle.cutting.specs.declared.Answer.the-variants.{Gave, Refused as Refused·answer}
 use Rattle.cutting.specs.declared.Thinned.{Thinned}
 use Rattle.cuts.specs.Record.{entrySize, cutsOf}
 use Rattle.replay.specs.Rows.{recordRows, entriesRows}
 use Rattle.cutting.specs.Rows.{checkingRows, groupingRows}
 use Rattle.heaps.specs.Names.{settled, written}
-use Rattle.runs.specs.Runs.{answered, Recorded, Continued}
+use Rattle.cutting.specs.Runs.{answered, Recorded, Continued}
 use Rattle.cutting.specs.Calls.{Checking, Grouping, Thins}
 use Rattle.heaps.proofs.Names.{written-same}
 use Rattle.cuts.proofs.Cuts.{length-cuts}
 use Rattle.cuts.proofs.Narrow.{narrow-cuts}
 use Rattle.replay.proofs.Lawful.{Stopped, entries-lawful, lawful-entries, entries-stop, record-fits}
-use Rattle.runs.proofs.Finish.{cuts-most, run-labels, run-groups, run-cuts}
-use Rattle.runs.proofs.Answers.{label-fits, space-fits}
+use Rattle.cutting.proofs.Finish.{cuts-most, run-labels, run-groups, run-cuts}
+use Rattle.cutting.proofs.Answers.{label-fits, space-fits}
 use Rattle.cutting.proofs.Carried.{checking-core, grouping-core}
-use Rattle.runs.proofs.Continuing.{Sound}
+use Rattle.cutting.proofs.Continuing.{Sound}
 
 module _ (n k : ℕ) (good : Bool) (links : List Link) (judged : first (tableRows n k good links) ≡ Accepted) where
   counted : Counted n k good (length links)
@@ -79,7 +79,7 @@ module _ (n k : ℕ) (good : Bool) (links : List Link) (judged : first (tableRow
     own-cuts = omega (arith, run-cuts n (pairTally links) k (counted .some-bones) (cutsOf own) (c .lawful) (c .done), groups-some)
       where
         groups-some : 0 < groups n (pairTally links) k
-        groups-some = subst (λ (x : ℕ). 0 < x) (run-groups n (pairTally links) k (counted .some-bones) (cutsOf own) (c .lawful) (c .done)) (omega (arith, Rattle.runs.proofs.Finish.piles-run n (pairTally links) k (counted .some-bones) (cutsOf own) (c .lawful)))
+        groups-some = subst (λ (x : ℕ). 0 < x) (run-groups n (pairTally links) k (counted .some-bones) (cutsOf own) (c .lawful) (c .done)) (omega (arith, Rattle.cutting.proofs.Finish.piles-run n (pairTally links) k (counted .some-bones) (cutsOf own) (c .lawful)))
 
     own-length : length own ≡ entrySize * (groups n (pairTally links) k - 1)
     unfolding own cutsOf

@@ -12,18 +12,19 @@ use Rattle.meaning.specs.Judge.{first}
 use Rattle.links.specs.Links.{countRows, tableRows}
 use Rattle.pairs.specs.Table.{held, filled}
 use Rattle.links.proofs.LinksBytes.{Short}
-use Rattle.runs.specs.declared.Answer.{Answer}
+use Rattle.weighing.specs.Search.{Small}
+use Rattle.cutting.specs.declared.Answer.{Answer}
 use Rattle.replay.specs.Rows.{recordRows}
-use Rattle.runs.specs.Rows.{labelRow, spaceRow}
+use Rattle.cutting.specs.Rows.{labelRow, spaceRow}
 use Rattle.heaps.specs.Names.{settled, written}
-use Rattle.runs.specs.Runs.{answered, Checked, Recorded, Grouped}
+use Rattle.cutting.specs.Runs.{answered, Checked, Recorded, Grouped}
 use Rattle.cutting.specs.Calls.{Checking, Grouping}
 use Rattle.cuts.specs.Record.{cutsOf}
 use Rattle.meaning.specs.Tally.{pairTally}
 use Rattle.meaning.specs.Heap.{start, left, piles, finished}
 use Rattle.meaning.specs.Firm.{label, groups}
 use Rattle.links.proofs.LinksRows.{never-both}
-use Rattle.cutting.proofs.Carried.{counts-pass, filled-counted, filled-alike, checked-alike, checking-core, checking-stop, grouped-alike, grouping-core, grouping-stop}
+use Rattle.cutting.proofs.Carried.{counts-pass, filled-counted, filled-alike, filled-small, checked-alike, checking-core, checking-stop, grouped-alike, grouping-core, grouping-stop}
 
 module _ (n k : ℕ) (good : Bool) (links : List Link) (j : Judged) (judged : j ≡ first (tableRows n k good links)) where
   pub judged-fits : j ≡ Accepted → (0 < n) × (n ≤ 128) × (k ≤ 65535)
@@ -31,8 +32,9 @@ module _ (n k : ℕ) (good : Bool) (links : List Link) (j : Judged) (judged : j 
       let counted = filled-counted n k good links j judged e in
       (counted .some-bones, counted .few-bones, counted .low-threshold)
 
-  pub judged-counts : j ≡ Accepted → first (countRows n k true 0) ≡ Accepted
-  judged-counts e = counts-pass n k good links (sym judged ∙ e)
+  -- what the functions above the table ask of it
+  pub judged-asked : Short links → j ≡ Accepted → (first (countRows n k true 0) ≡ Accepted) × Small n (filled j (replicate 16384 0) links)
+  judged-asked short e = (counts-pass n k good links (sym judged ∙ e), filled-small n k good links j judged e _ refl short)
 
 pub judged-checking : (n k : ℕ) (good : Bool) (links : List Link) (j : Judged) → j ≡ first (tableRows n k good links) → Short links → (bytes labels labels′ : List ℕ) (r : Answer)
     → Checked (j ∷ labelRow n (length labels) ∷ recordRows n (held (filled j (replicate 16384 0) links)) k bytes) n (held (filled j (replicate 16384 0) links)) k bytes labels labels′ r → Checking n k good links bytes labels labels′ r

@@ -19,10 +19,10 @@ use Rattle.cuts.specs.Record.{entrySize, cutsIn, cutsOf}
 use Rattle.replay.specs.Rows.{entriesRows, recordRows}
 use Rattle.replay.proofs.Lawful.{record-fits}
 use Rattle.heaps.proofs.Names.{names-at}
-use Rattle.runs.specs.declared.Answer.{Answer}
-use Rattle.runs.specs.Rows.{labelRow, spaceRow}
-use Rattle.runs.specs.Runs.{Grouped}
-use Rattle.runs.proofs.Answers.{label-fits, space-fits}
+use Rattle.cutting.specs.declared.Answer.{Answer}
+use Rattle.cutting.specs.Rows.{labelRow, spaceRow}
+use Rattle.cutting.specs.Runs.{Grouped}
+use Rattle.cutting.proofs.Answers.{label-fits, space-fits}
 
 -- the empty record is accepted
 none-given : (n : ℕ) (w : Tally) (k : ℕ) → first (recordRows n w k []) ≡ Accepted

@@ -1,5 +1,10 @@
 -- The laws of cutting.
 pub mod Alike
+pub mod Finish
+pub mod Going
+pub mod Continuing
+pub mod Answers
+pub mod Small
 pub mod Carried
 pub mod Judged
 pub mod Demands

@@ -1,5 +1,5 @@
 -- The calls of `label_judged` and of `keep_links` in a walk, on a pair table and on labels that lie in locals, said once.
---     calls-label      the table is lent to be read, and the labels to be written: both come back, the labels as the callee leaves them
+--     calls-label      the table and the labels are lent to be written: both come back as the callee leaves them
 --     calls-keep       the labels are lent to be read, a copy of what the links own goes to the callee, and the room for links is given up to it
 --     gives-up         a `&mut [Link]` that is given up as it is
 -- Assumes `Given`, and that the table of calls is monotone under a frame.
@@ -44,10 +44,11 @@ use Rattle.stored.specs.Records.{keptLinks, written}
 use Rattle.links.specs.Links.{countRows}
 use Rattle.pairs.specs.Side.{heapOf}
 use Rattle.pairs.specs.Table.{held}
+use Rattle.weighing.specs.Search.{Small}
 use Rattle.stored.proofs.RecordsLink.{R, J, told, IsJudged, told-so, made-judged}
 use Rattle.lent.proofs.RecordsCalls.{calls-to}
 use Rattle.lent.proofs.RecordsRead.{Own}
-use Rattle.lent.proofs.RecordsTable.{Table}
+use Rattle.lent.proofs.RecordsTable.{Table, OwnTable}
 use Rattle.lent.proofs.keep_links as keeps
 use Rattle.lent.proofs.keep_links.Symbol.{name as #keep-links}
 use Rattle.cutting.specs.Rows.{linkRow}
@@ -92,21 +93,21 @@ module _ {M : Type 1} (𝓤 : URA M) (H : Heap 𝓤) (A : Atoms 𝓤) (W : Given
 module _ {M : Type 1} {𝓤 : URA M} {H : Heap 𝓤} {A : Atoms 𝓤} {K : Type 0} {W : Given 𝓤 H A} {Γ : List (Item 𝓤)} {E : Env 𝓤 H} {C : Calls 𝓤 H} {Λ : Loops 𝓤 H} {xs : List Operand} {post : Post 𝓤 H} {d : Place} {rest : Body} where
   pub calls-label : K → (mem : Memory → SProp 𝓤) (run : Routine → Fun 𝓤) → FmC 𝓤 H (W .laws) C → Triple 𝓤 (C #label-judged) (LabelJudged 𝓤 H A mem run)
       → (j : Judged) (n k count room b : ℕ) (t : List ℕ) (c : ℕ) (ls : List ℕ)
-      → IsJudged j → n < 2 ^ 64 → k < 2 ^ 64 → count < 2 ^ 64 → room < 2 ^ 64 → (j ≡ Accepted → first (countRows n k true 0) ≡ Accepted)
+      → IsJudged j → n < 2 ^ 64 → k < 2 ^ 64 → count < 2 ^ 64 → room < 2 ^ 64 → (j ≡ Accepted → (first (countRows n k true 0) ≡ Accepted) × Small n t)
       → ((α β : ℕ) (γ δ : GName)
-      → Opds K W (raw (LabelJudged 𝓤 H A mem run .pre (to-label 𝓤 H A mem run α γ β δ j n k count room b t c ls)) ∷ ‵ (flent (β ∷ []) (Held (in-memory Labels) c 0 δ)) ∷ ‵ (flent (α ∷ []) (partAt Table fullShare t b 0)) ∷ Γ) E xs
+      → Opds K W (raw (LabelJudged 𝓤 H A mem run .pre (to-label 𝓤 H A mem run α γ β δ j n k count room b t c ls)) ∷ ‵ (flent (β ∷ []) (Held (in-memory Labels) c 0 δ)) ∷ ‵ (flent (α ∷ []) (Held (in-memory Table) b 0 γ)) ∷ Γ) E xs
       (told j ∷ vptr b 0 ∷ vint w64 n ∷ vint w64 k ∷ vint w64 count ∷ vint w64 room ∷ vptr c 0 ∷ []))
-      → ((r : Judged) (ls′ : List ℕ) → Labelled n k j count room t r ls′ → IsJudged r → Seq K W (‵ (partAt Table fullShare t b 0) ∷ ‵ (partAt Labels fullShare ls′ c 0) ∷ Γ) (lands C Λ E d (told r) rest post))
+      → ((r : Judged) (t′ ls′ : List ℕ) → Labelled n k j count room t r ls′ → IsJudged r → Seq K W (‵ (partAt Table fullShare t′ b 0) ∷ ‵ (partAt Labels fullShare ls′ c 0) ∷ Γ) (lands C Λ E d (told r) rest post))
       → Seq K W (‵ (partAt Table fullShare t b 0) ∷ ‵ (partAt Labels fullShare ls c 0) ∷ Γ) (runs C Λ E (seq (call #label-judged xs d) rest) post)
   calls-label tk mem run fm known j n k count room b t c ls isj gn gk gc gr fits os next =
       lft-new tk tt (λ α. move tk (1 ∷ []) $
-      use1 W (later (some (λ (γ : GName). ‵ (ShrRef (named 0) (α ∷ []) Table .own (lent b γ t) (vptr b 0 ∷ [])) ⊛ ‵ (flent (α ∷ []) (partAt Table fullShare t b 0))))) (lends-shr 𝓤 H A W Table (named 0) (α ∷ []) fullShare t b 0) $ await tk tt $ pick tk (λ γ. split tk $
+      use1 W (later (some (λ (γ : GName). ‵ (OwnTable b 0 (α ∷ []) γ t) ⊛ ‵ (flent (α ∷ []) (Held (in-memory Table) b 0 γ))))) (lends-ref 𝓤 H A W Table (named 0) (α ∷ []) t b 0) $ await tk tt $ pick tk (λ γ. split tk $
       lft-new tk tt (λ β. move tk (4 ∷ []) $
       use1 W (later (some (λ (δ : GName). ‵ (MutRef (named 0) (β ∷ []) Labels .own (lent c δ ls) (vptr c 0 ∷ [])) ⊛ ‵ (flent (β ∷ []) (Held (in-memory Labels) c 0 δ))))) (lends-ref 𝓤 H A W Labels (named 0) (β ∷ []) ls c 0) $ await tk tt $ pick tk (λ δ. split tk $
       -- [the labels' reference; their lender's part; the token of β; the table's reference; its lender's part; the token of α; ..]
       move tk (3 ∷ 5 ∷ 0 ∷ 2 ∷ []) $ group tk 4 $
       use1 W (raw (LabelJudged 𝓤 H A mem run .pre (to-label 𝓤 H A mem run α γ β δ j n k count room b t c ls)))
-      (qed W (‵ (ShrRef (named 0) (α ∷ []) Table .own (lent b γ t) (vptr b 0 ∷ [])) ∷ ‵ (flft (α ∷ []) fullShare) ∷ ‵ (MutRef (named 0) (β ∷ []) Labels .own (lent c δ ls) (vptr c 0 ∷ [])) ∷ ‵ (flft (β ∷ []) fullShare) ∷ []) ∵ says ! fits $
+      (qed W (‵ (OwnTable b 0 (α ∷ []) γ t) ∷ ‵ (flft (α ∷ []) fullShare) ∷ ‵ (MutRef (named 0) (β ∷ []) Labels .own (lent c δ ls) (vptr c 0 ∷ [])) ∷ ‵ (flft (β ∷ []) fullShare) ∷ []) ∵ says ! fits $
       nothing ! $ move ! (4 ∷ 0 ∷ []) $ join ! $ move ! (2 ∷ 0 ∷ []) $ join ! $ frame ! $ nothing ! $ move ! (2 ∷ 0 ∷ []) $ fjoin ! $
       owned ! usize (Is usize) (uint-makes 𝓤 H A W w64) room (vint w64 room ∷ []) (refl, gr) $ fjoin ! $ owned ! usize (Is usize) (uint-makes 𝓤 H A W w64) count (vint w64 count ∷ []) (refl, gc) $ fjoin ! $
       owned ! u64 (Is u64) (uint-makes 𝓤 H A W w64) k (vint w64 k ∷ []) (refl, gk) $ fjoin ! $ owned ! u64 (Is u64) (uint-makes 𝓤 H A W w64) n (vint w64 n ∷ []) (refl, gn) $ fjoin ! $
@@ -116,11 +117,13 @@ module _ {M : Type 1} {𝓤 : URA M} {H : Heap 𝓤} {A : Atoms 𝓤} {K : Type 
       -- [the result; the tokens; the last values; the lenders' parts of labels and table; ..]
       peeks tk J (Is J) (shows 𝓤 H A J) r (v ∷ []) (λ is. drop tk $ use1 W (‵ (flft (α ∷ []) fullShare) ⊛ ‵ (flft (β ∷ []) fullShare) ⊛ ‵ ftrue) (id⊢ 𝓤 _) $ split3 tk $ lft-end tk tt $
       move tk (1 ∷ []) $ lft-end tk tt $ move tk (2 ∷ []) $ drop tk $
-      move tk (2 ∷ []) $ fsplit tk $ drop tk $ fsplit tk $ drop tk $ fsplit tk $ drop tk $ fsplit tk $ drop tk $ fsplit tk $ drop tk $ fsplit tk $ drop tk $ fsplit tk $ move tk (1 ∷ []) $ drop tk $
-      -- [the labels' last value; β is over; α is over; the lenders' parts; ..]
-      move tk (1 ∷ 3 ∷ 0 ∷ []) $ use3 W (later (‵ (partAt Labels fullShare (ws .1 .1 .1 .1 .1 .1 .0) c 0))) (ref-back 𝓤 H A W Labels (β ∷ []) δ (ws .1 .1 .1 .1 .1 .1 .0) c 0) $
-      await tk tt $ move tk (1 ∷ 2 ∷ []) $ lent-back tk tt $
-      subst (λ (u : Val). Seq K W (‵ (partAt Table fullShare t b 0) ∷ ‵ (partAt Labels fullShare (ws .1 .1 .1 .1 .1 .1 .0) c 0) ∷ Γ) (lands C Λ E d u rest post)) (sym (ap only (told-so r (v ∷ []) is))) (next r (ws .1 .1 .1 .1 .1 .1 .0) e (subst (Is J r) (told-so r (v ∷ []) is) is))))))))
+      -- [β is over; α is over; the last values; the lenders' parts; ..]
+      move tk (2 ∷ []) $ fsplit tk $ drop tk $ fsplit tk $ move tk (3 ∷ 5 ∷ 0 ∷ []) $
+      use3 W (later (‵ (partAt Table fullShare (ws .1 .0) b 0))) (ref-back 𝓤 H A W Table (α ∷ []) γ (ws .1 .0) b 0) $ await tk tt $
+      -- [the table; the other last values; β is over; the lender's part of the labels; ..]
+      move tk (1 ∷ []) $ fsplit tk $ drop tk $ fsplit tk $ drop tk $ fsplit tk $ drop tk $ fsplit tk $ drop tk $ fsplit tk $ move tk (1 ∷ []) $ drop tk $
+      move tk (2 ∷ 3 ∷ 0 ∷ []) $ use3 W (later (‵ (partAt Labels fullShare (ws .1 .1 .1 .1 .1 .1 .0) c 0))) (ref-back 𝓤 H A W Labels (β ∷ []) δ (ws .1 .1 .1 .1 .1 .1 .0) c 0) $ await tk tt $ move tk (1 ∷ []) $
+      subst (λ (u : Val). Seq K W (‵ (partAt Table fullShare (ws .1 .0) b 0) ∷ ‵ (partAt Labels fullShare (ws .1 .1 .1 .1 .1 .1 .0) c 0) ∷ Γ) (lands C Λ E d u rest post)) (sym (ap only (told-so r (v ∷ []) is))) (next r (ws .1 .0) (ws .1 .1 .1 .1 .1 .1 .0) e (subst (Is J r) (told-so r (v ∷ []) is) is))))))))
 
   pub calls-keep : K → (mem : Memory → SProp 𝓤) (run : Routine → Fun 𝓤) → FmC 𝓤 H (W .laws) C → Triple 𝓤 (C #keep-links) (KeepLinks 𝓤 H A mem run)
       → {κ κ′ : Lft} {q q′ : Share} (x : RefT (List Link)) (c : ℕ) (ls : List ℕ) (z : RefT (List Link))

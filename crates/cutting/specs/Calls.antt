@@ -10,8 +10,8 @@ use Rattle.meaning.specs.declared.Judged.the-variants.{Accepted, Refused}
 use Rattle.meaning.specs.Judge.{first}
 use Rattle.meaning.specs.Tally.{Tally, pairTally}
 use Rattle.meaning.specs.Firm.{label}
-use Rattle.runs.specs.declared.Answer.{Answer}
-use Rattle.runs.specs.Runs.{Checked, Grouped}
+use Rattle.cutting.specs.declared.Answer.{Answer}
+use Rattle.cutting.specs.Runs.{Checked, Grouped}
 use Rattle.cutting.specs.declared.Thinned.{Thinned}
 use Rattle.cutting.specs.declared.Thinned.the-variants.{Kept, Refused as Refused·thinned}
 use Rattle.stored.specs.Records.{keptLinks}

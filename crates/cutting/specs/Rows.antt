@@ -1,5 +1,5 @@
--- Row 14 of the refusal table, and the rows that each call tries, in document 01's order.
-use Prim.Native.Nat.{ℕ}
+-- Rows 7, 8 and 14 of the refusal table, which judge the room that is lent, and the rows that each call tries, in document 01's order.
+use Prim.Native.Nat.{ℕ, _*_, _-_}
 use mathlib.Core.Bool.{Bool}
 use mathlib.Core.List.{List, [], _∷_, _++_}
 use lib.Dec.{ltb}
@@ -9,8 +9,15 @@ use Rattle.meaning.specs.declared.Judged.{Judged}
 use Rattle.meaning.specs.Judge.{refuse}
 use Rattle.meaning.specs.Tally.{pairTally}
 use Rattle.links.specs.Links.{tableRows}
+use Rattle.cuts.specs.Record.{entrySize}
 use Rattle.replay.specs.Rows.{recordRows}
-use Rattle.runs.specs.Rows.{labelRow, spaceRow}
+
+-- 7: label space shorter than n. 8: record space shorter than n − 1 entries
+unfoldable pub labelRow : ℕ → ℕ → Judged
+labelRow n room = refuse (ltb room n) 7 0
+
+unfoldable pub spaceRow : ℕ → ℕ → Judged
+spaceRow n room = refuse (ltb room (entrySize * (n - 1))) 8 0
 
 -- 14: link space shorter than the links given, both counted in whole links
 unfoldable pub linkRow : ℕ → ℕ → Judged

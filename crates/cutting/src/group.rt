@@ -1,10 +1,95 @@
 // Grouping: a record is judged, and lawful cuts are added until every pile is firm.
 use crate::Answer;
+use crate::firm::finish;
+use cuts::record::Record;
+use cuts::record::copy;
+use heaps::count_piles;
+use heaps::write_names;
+use links::judge_counts;
 use meaning::Judged;
-use runs::group_table;
+use replay::judge_record;
 use weighing::fill;
-ghost use Rattle.links.specs.Links.{whole, linksOf};
+ghost use mathlib.Core.Path.{_≡_};
+ghost use mathlib.Core.Bool.{true};
+ghost use mathlib.Core.List.{_∷_, _++_};
+ghost use Prim.Native.Nat.{_*_, _-_, _≤_, _<_};
+ghost use lib.ListN.{length};
+ghost use Rattle.meaning.specs.declared.Judged.the-variants.{Accepted};
+ghost use Rattle.meaning.specs.Judge.{first};
+ghost use Rattle.meaning.specs.Firm.{label, groups};
+ghost use Rattle.meaning.specs.Heap.{start, left};
+ghost use Rattle.links.specs.Links.{whole, linksOf, countRows};
+ghost use Rattle.pairs.specs.Side.{heapOf};
+ghost use Rattle.pairs.specs.Table.{held};
+ghost use Rattle.weighing.specs.Search.{Small};
+ghost use Rattle.cuts.specs.Record.{entrySize, cutsOf};
+ghost use Rattle.replay.specs.Rows.{recordRows};
+ghost use Rattle.heaps.specs.Names.{written};
+ghost use Rattle.cutting.specs.Rows.{labelRow, spaceRow};
+ghost use Rattle.cutting.specs.Runs.{Continued, Grouped};
 ghost use Rattle.cutting.specs.Calls.{Grouping};
+
+// An accepted record is put into the record space and finished; the labels are written, and the groups counted.
+fn complete(
+    table: &mut [u32; 16384],
+    n: usize,
+    k: u64,
+    entries: &[u8],
+    names: &mut [u8; 128],
+    labels: &mut [u8],
+    space: &mut [u8],
+) -> Answer
+    requires { ⌜ (0 < n) × (n ≤ 128) × (k ≤ 65535) × (entrySize * (n - 1) ≤ length (now space)) ⌝ }
+    requires { ⌜ Small n (now table) ⌝ }
+    requires { ⌜ (first (recordRows n (held (now table)) k (now entries)) ≡ Accepted) × (heapOf (now names) ≡ left n start (cutsOf (now entries))) × (length (now names) ≡ 128) ⌝ }
+    ensures { λ r. ⌜ r ≡ Answer.Gave (groups n (held (now (table .entry))) k) true ⌝ }
+    ensures { λ _. ⌜ now (labels .exit) ≡ written n (label n (held (now (table .entry))) k) (now (labels .entry)) ⌝ }
+    ensures { λ _. ⌜ Continued n (held (now (table .entry))) k (now (entries .entry)) (now (space .entry)) (now (space .exit)) ⌝ }
+{
+    copy(entries, space, 0);
+    finish(table, n, k, names, space, Record::within(entries.len()));
+    write_names(names, n, labels);
+    Answer::Gave {
+        count: count_piles(names, n),
+        finished: true,
+    }
+}
+
+// Rows 1, 2 and 7 to 13, and then the groups. No link is judged here: the table may hold any tallies that the search can add up.
+pub(crate) fn group_table(
+    table: &mut [u32; 16384],
+    n: u64,
+    k: u64,
+    entries: &[u8],
+    labels: &mut [u8],
+    space: &mut [u8],
+) -> Answer
+    requires { ⌜ Small n (now table) ⌝ }
+    ensures { λ r. ⌜ Grouped (countRows n k true 0 ++ labelRow n (length (now (labels .entry))) ∷ spaceRow n (length (now (space .entry))) ∷ recordRows n (held (now (table .entry))) k (now (entries .entry))) n (held (now (table .entry))) k (now (entries .entry)) (now (labels .entry)) (now (labels .exit)) (now (space .entry)) (now (space .exit)) r ⌝ }
+{
+    match judge_counts(n, k, true, 0) {
+        Judged::Accepted => {}
+        Judged::Refused { number, place } => return Answer::Refused { number, place },
+    }
+    let bones = n as usize;
+    if labels.len() < bones {
+        return Answer::Refused {
+            number: 7,
+            place: 0,
+        };
+    }
+    if space.len() < Record::ENTRY * (bones - 1) {
+        return Answer::Refused {
+            number: 8,
+            place: 0,
+        };
+    }
+    let mut names = [0u8; 128];
+    match judge_record(table, bones, k, entries, &mut names) {
+        Judged::Accepted => complete(table, bones, k, entries, &mut names, labels, space),
+        Judged::Refused { number, place } => Answer::Refused { number, place },
+    }
+}
 
 // Groups the bones: gives the number of groups, writes each bone's label to the label space, and writes to the record space the given
 // entries and then its own, a lawful run and finished; or gives the first refusal, which leaves both spaces as they were. Links are lent
@@ -21,7 +106,7 @@ pub fn grouping(
 {
     let mut table = [0u32; 16384];
     match fill(n, k, links, &mut table) {
-        Judged::Accepted => group_table(&table, n, k, record, labels, space),
+        Judged::Accepted => group_table(&mut table, n, k, record, labels, space),
         Judged::Refused { number, place } => Answer::Refused { number, place },
     }
 }

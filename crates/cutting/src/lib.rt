@@ -1,5 +1,6 @@
-// Cutting: checking, grouping and thinning. The record of cuts and the runs over a filled table are those of the crates below.
+// Cutting: checking, grouping and thinning, and the runs of cuts over a filled pair table that they are made of. The record of cuts is that of `cuts`.
 mod check;
+mod firm;
 mod group;
 mod records;
 mod thin;
@@ -10,8 +11,14 @@ pub use group::grouping;
 pub use records::checking_records;
 pub use records::grouping_records;
 pub use records::thinning_records;
-pub use runs::Answer;
 pub use thin::thinning;
+
+// What grouping and checking answer: a refusal of the table with its place, or the number of groups (of piles) and whether the run of cuts
+// is finished.
+pub enum Answer {
+    Refused { number: u32, place: u32 },
+    Gave { count: u32, finished: bool },
+}
 
 // What thinning answers: a refusal of the table with its place, or the number of links kept.
 pub enum Thinned {

@@ -2,13 +2,13 @@
 // so the calls are proved by hand: each fills the table and leaves the rest to functions above the filled table.
 use crate::Answer;
 use crate::Thinned;
+use crate::check::check_table;
+use crate::group::group_table;
 use crate::thin::name_groups;
 use lent::fill_records;
 use lent::keep_links;
 use meaning::Judged;
 use meaning::Link;
-use runs::check_table;
-use runs::group_table;
 ghost use mathlib.Core.Path.{_≡_};
 ghost use mathlib.Core.Bool.{true};
 ghost use mathlib.Core.List.{[], _∷_};
@@ -20,23 +20,23 @@ ghost use Rattle.meaning.specs.Firm.{label};
 ghost use Rattle.links.specs.Links.{countRows};
 ghost use Rattle.pairs.specs.Side.{heapOf};
 ghost use Rattle.pairs.specs.Table.{held};
+ghost use Rattle.weighing.specs.Search.{Small};
 ghost use Rattle.replay.specs.Rows.{recordRows};
-ghost use Rattle.runs.specs.Rows.{labelRow, spaceRow};
-ghost use Rattle.runs.specs.Runs.{Checked, Grouped};
-ghost use Rattle.cutting.specs.Rows.{linkRow};
+ghost use Rattle.cutting.specs.Rows.{labelRow, spaceRow, linkRow};
+ghost use Rattle.cutting.specs.Runs.{Checked, Grouped};
 ghost use Rattle.cutting.specs.Thin.{refused};
 ghost use Rattle.cutting.specs.Calls.{Checking, Grouping, keeping, ThinningRecords};
 
 // Checking once the links were judged and added: their refusal, or what the table gives.
 pub(crate) fn check_judged(
     judged: Judged,
-    table: &[u32; 16384],
+    table: &mut [u32; 16384],
     n: u64,
     k: u64,
     entries: &[u8],
     labels: &mut [u8],
 ) -> Answer
-    requires { ⌜ (judged ≡ Accepted → first (countRows n k true 0) ≡ Accepted) ⌝ }
+    requires { ⌜ (judged ≡ Accepted → (first (countRows n k true 0) ≡ Accepted) × Small n (now table)) ⌝ }
     ensures { λ r. ⌜ Checked (judged ∷ labelRow n (length (now (labels .entry))) ∷ recordRows n (held (now (table .entry))) k (now (entries .entry))) n (held (now (table .entry))) k (now (entries .entry)) (now (labels .entry)) (now (labels .exit)) r ⌝ }
 {
     match judged {
@@ -51,20 +51,20 @@ pub fn checking_records(n: u64, k: u64, links: &[Link], record: &[u8], labels: &
 {
     let mut table = [0u32; 16384];
     let judged = fill_records(n, k, links, &mut table);
-    check_judged(judged, &table, n, k, record, labels)
+    check_judged(judged, &mut table, n, k, record, labels)
 }
 
 // Grouping once the links were judged and added: their refusal, or what the table gives.
 pub(crate) fn group_judged(
     judged: Judged,
-    table: &[u32; 16384],
+    table: &mut [u32; 16384],
     n: u64,
     k: u64,
     entries: &[u8],
     labels: &mut [u8],
     space: &mut [u8],
 ) -> Answer
-    requires { ⌜ (judged ≡ Accepted → first (countRows n k true 0) ≡ Accepted) ⌝ }
+    requires { ⌜ (judged ≡ Accepted → (first (countRows n k true 0) ≡ Accepted) × Small n (now table)) ⌝ }
     ensures { λ r. ⌜ Grouped (judged ∷ labelRow n (length (now (labels .entry))) ∷ spaceRow n (length (now (space .entry))) ∷ recordRows n (held (now (table .entry))) k (now (entries .entry))) n (held (now (table .entry))) k (now (entries .entry)) (now (labels .entry)) (now (labels .exit)) (now (space .entry)) (now (space .exit)) r ⌝ }
 {
     match judged {
@@ -86,20 +86,20 @@ pub fn grouping_records(
 {
     let mut table = [0u32; 16384];
     let judged = fill_records(n, k, links, &mut table);
-    group_judged(judged, &table, n, k, record, labels, space)
+    group_judged(judged, &mut table, n, k, record, labels, space)
 }
 
 // Thinning once the links were judged and added: their refusal, or row 14, or the labels of the groups.
 pub(crate) fn label_judged(
     judged: Judged,
-    table: &[u32; 16384],
+    table: &mut [u32; 16384],
     n: u64,
     k: u64,
     count: usize,
     room: usize,
     labels: &mut [u8; 128],
 ) -> Judged
-    requires { ⌜ (judged ≡ Accepted → first (countRows n k true 0) ≡ Accepted) ⌝ }
+    requires { ⌜ (judged ≡ Accepted → (first (countRows n k true 0) ≡ Accepted) × Small n (now table)) ⌝ }
     ensures { λ r. ⌜ (r ≡ first (judged ∷ linkRow count room ∷ [])) × (r ≡ Accepted → (b : ℕ) → b < n → heapOf (now (labels .exit)) b ≡ label n (held (now (table .entry))) k b) ⌝ }
 {
     match judged {
@@ -149,7 +149,15 @@ pub fn thinning_records(n: u64, k: u64, links: &[Link], space: &mut [Link]) -> T
     let mut table = [0u32; 16384];
     let mut labels = [0u8; 128];
     let filled = fill_records(n, k, links, &mut table);
-    let judged = label_judged(filled, &table, n, k, links.len(), space.len(), &mut labels);
+    let judged = label_judged(
+        filled,
+        &mut table,
+        n,
+        k,
+        links.len(),
+        space.len(),
+        &mut labels,
+    );
     if refuses(judged) {
         return thinned(judged, 0);
     }

@@ -1,10 +1,10 @@
 // Thinning: the links whose ends share a group stay.
 use crate::Thinned;
+use crate::group::group_table;
 use cuts::record::Record;
 use cuts::record::copy;
 use links::link_at;
 use meaning::Judged;
-use runs::group_table;
 use stored::same_label;
 use weighing::fill;
 ghost use mathlib.Core.Path.{_≡_};
@@ -19,6 +19,7 @@ ghost use Rattle.links.specs.Links.{whole, linksOf, linkAt, countRows, linksRow
 ghost use Rattle.stored.specs.Records.{sameLabel, keptLinks};
 ghost use Rattle.pairs.specs.Side.{heapOf};
 ghost use Rattle.pairs.specs.Table.{held};
+ghost use Rattle.weighing.specs.Search.{Small};
 ghost use Rattle.cutting.specs.Rows.{linkRow};
 ghost use Rattle.cutting.specs.Thin.{Keeps};
 ghost use Rattle.cutting.specs.Calls.{linkBytes, over, Thins, Thinning};
@@ -53,8 +54,8 @@ fn keep(names: &[u8; 128], links: &[u8], space: &mut [u8]) -> usize
 }
 
 // The names become the labels: those of grouping from the empty record on, in a record space of its own.
-pub(crate) fn name_groups(table: &[u32; 16384], n: u64, k: u64, names: &mut [u8; 128])
-    requires { ⌜ first (countRows n k true 0) ≡ Accepted ⌝ }
+pub(crate) fn name_groups(table: &mut [u32; 16384], n: u64, k: u64, names: &mut [u8; 128])
+    requires { ⌜ (first (countRows n k true 0) ≡ Accepted) × Small n (now table) ⌝ }
     ensures { λ _. ⌜ ((b : ℕ) → b < n → heapOf (now (names .exit)) b ≡ label n (held (now (table .entry))) k b) ⌝ }
 {
     *names = [0u8; 128];
@@ -64,13 +65,13 @@ pub(crate) fn name_groups(table: &[u32; 16384], n: u64, k: u64, names: &mut [u8;
 
 // Thinning above the filled table: row 14, and then the links that stay.
 pub(crate) fn thin_table(
-    table: &[u32; 16384],
+    table: &mut [u32; 16384],
     n: u64,
     k: u64,
     links: &[u8],
     space: &mut [u8],
 ) -> Thinned
-    requires { ⌜ (first (countRows n k true 0) ≡ Accepted) × (length (now links) / 4 ≤ 4096) × (first (linksRows n 0 (linksOf (now links))) ≡ Accepted) ⌝ }
+    requires { ⌜ (first (countRows n k true 0) ≡ Accepted) × (length (now links) / 4 ≤ 4096) × (first (linksRows n 0 (linksOf (now links))) ≡ Accepted) × Small n (now table) ⌝ }
     ensures { λ r. ⌜ Thins linkBytes (linkRow (length (linksOf (now (links .entry)))) (length (now (space .entry)) / 4) ∷ []) n (held (now (table .entry))) k (linksOf (now (links .entry))) (now (space .entry)) (now (space .exit)) r ⌝ }
 {
     if space.len() / 4 < links.len() / 4 {
@@ -93,7 +94,7 @@ pub fn thinning(n: u64, k: u64, links: &[u8], space: &mut [u8]) -> Thinned
 {
     let mut table = [0u32; 16384];
     match fill(n, k, links, &mut table) {
-        Judged::Accepted => thin_table(&table, n, k, links, space),
+        Judged::Accepted => thin_table(&mut table, n, k, links, space),
         Judged::Refused { number, place } => Thinned::Refused { number, place },
     }
 }

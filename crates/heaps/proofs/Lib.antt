@@ -1,3 +1,4 @@
 -- The laws of heaps.
 pub mod Names
 pub mod Parting
+pub mod Renaming

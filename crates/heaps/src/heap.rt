@@ -5,21 +5,35 @@ use cuts::record::Entry;
 use pairs::in_side;
 ghost use mathlib.Core.Path.{_≡_};
 ghost use mathlib.Core.Bool.{cond};
-ghost use Prim.Native.Nat.{_≤_, _<_, min};
+ghost use Prim.Native.Nat.{ℕ, _+_, _*_, _≤_, _<_, min};
 ghost use lib.Dec.{eqb};
-ghost use lib.ListN.{getD};
+ghost use lib.ListN.{length, getD};
 ghost use Rattle.meaning.specs.Count.{least};
 ghost use Rattle.meaning.specs.Heap.{parted, piles};
 ghost use Rattle.pairs.specs.Side.{heapOf, sideOf};
 ghost use Rattle.cuts.specs.Record.{cutOf};
-ghost use Rattle.heaps.specs.Names.{names as namesOf, written};
+ghost use Rattle.heaps.specs.Names.{names as namesOf, renamedIn, written};
+
+// The first byte of a side that is not nought, 16 where all are: no bone of the bytes before it is on the side.
+fn first_byte(side: &[u8; 16]) -> usize
+    ensures { λ r. ⌜ (r ≤ 16) × ((j : ℕ) → j < r → getD (now (side .entry)) j 0 ≡ 0) ⌝ }
+{
+    let mut j = 0;
+    while j < 16 {
+        if side[j] != 0 {
+            return j;
+        }
+        j += 1;
+    }
+    16
+}
 
 // The least bone on a side, n where none of the first n is.
 fn least_of(side: &[u8; 16], n: usize) -> u8
     requires { ⌜ n ≤ 128 ⌝ }
     ensures { λ r. ⌜ r ≡ least n (sideOf (now (side .entry))) ⌝ }
 {
-    let mut b = 0;
+    let mut b = lesser(first_byte(side) * 8, n);
     while b < n {
         if in_side(side, b) {
             return b as u8;
@@ -36,17 +50,45 @@ fn renamed(moved: bool, new: u8, old: u8) -> u8
     if moved { new } else { old }
 }
 
-// The heap is parted: the bones that an entry moves become a pile under their own least bone.
-pub fn part(names: &mut [u8; 128], n: usize, entry: Entry)
+// The bones of one byte of a side that are on it get a new name. Most cuts move few bones: a byte that is nought is passed over.
+fn rename(names: &mut [u8; 128], side: &[u8; 16], byte: usize, name: u8)
+    requires { ⌜ (byte < 16) × (length (now names) ≡ 128) ⌝ }
+    ensures { λ _. ⌜ now (names .exit) ≡ namesOf 128 (renamedIn (byte * 8) (byte * 8 + 8) (sideOf (now (side .entry))) name (heapOf (now (names .entry)))) ⌝ }
+{
+    if side[byte] == 0 {
+        return;
+    }
+    let from = byte * 8;
+    let to = from + 8;
+    for b in from..to {
+        names[b] = renamed(in_side(side, b), name, names[b]);
+    }
+}
+
+// The names in an array of its own, whose length is known to be 128; that of an array behind a reference is not.
+fn copied(names: &[u8; 128]) -> [u8; 128]
+    ensures { λ r. ⌜ r ≡ namesOf 128 (heapOf (now (names .entry))) ⌝ }
+{
+    let mut copy = [0u8; 128];
+    for b in 0..128 {
+        copy[b] = names[b];
+    }
+    copy
+}
+
+// The heap is parted: the bones that an entry moves become a pile under their own least bone, which is the result.
+pub fn part(names: &mut [u8; 128], n: usize, entry: Entry) -> u8
     ensures { λ _. ⌜ now (names .exit) ≡ namesOf 128 (parted (min n 128) (heapOf (now (names .entry))) (cutOf entry)) ⌝ }
+    ensures { λ r. ⌜ r ≡ least (min n 128) (sideOf (entry .side)) ⌝ }
 {
     let side = entry.side;
     let name = least_of(&side, lesser(n, 128));
-    let mut after = [0u8; 128];
-    for b in 0..128 {
-        after[b] = renamed(in_side(&side, b), name, names[b]);
+    let mut after = copied(names);
+    for byte in 0..16 {
+        rename(&mut after, &side, byte, name);
     }
     *names = after;
+    name
 }
 
 // A bone's name.

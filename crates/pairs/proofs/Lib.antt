@@ -2,4 +2,5 @@
 pub mod TableSpots
 pub mod TableAdds
 pub mod TableHeld
+pub mod TableRaised
 pub mod Sides

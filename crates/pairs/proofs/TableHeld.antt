@@ -17,7 +17,7 @@ use Rattle.meaning.specs.Count.{Bones}
 use Rattle.meaning.specs.Tally.{joins, pairTally, weight}
 use Rattle.meaning.proofs.Totals.{Symmetric, total-same}
 use Rattle.links.specs.Links.{tableRows}
-use Rattle.pairs.specs.Table.{spot, held, added, tallied}
+use Rattle.pairs.specs.Table.{spot, held, raised, added, tallied}
 use Rattle.links.proofs.LinksRows.{Propers, propers-more, table-counted, table-proper}
 use Rattle.links.proofs.LinksBytes.{Short}
 use Rattle.pairs.proofs.TableSpots.{spot-symmetric, spot-below, joins-symmetric, joins-spot}
@@ -36,7 +36,7 @@ pairTally-symmetric (l ∷ ls) i j =
 -- what a table of 16,384 tallies holds after one link: more by its tally where the link joins, if that does not wrap
 module _ (t : List ℕ) (l : Link) (i j : ℕ) (long : length t ≡ 16384) (ha : l .a < 128) (hb : l .b < 128) (hi : i < 128) (hj : j < 128) where
   put : (b : Bool) → eqb (spot i j) (spot (l .a) (l .b)) ≡ b → held t i j + cond b (l .tally) 0 < 2 ^ 32 → held (added t l) i j ≡ held t i j + cond b (l .tally) 0
-  unfolding held added
+  unfolding held added raised
   put true e h =
       let here : spot i j ≡ spot (l .a) (l .b) = eqb-true (spot i j) (spot (l .a) (l .b)) e in
       let room : spot (l .a) (l .b) < length t = omega (arith, spot-below (l .a) (l .b) ha hb) in
@@ -50,7 +50,7 @@ module _ (t : List ℕ) (l : Link) (i j : ℕ) (long : length t ≡ 16384) (ha :
   held-added h = put (joins l i j) (sym (joins-spot l i j ha hb hi hj)) h
 
 pub length-added : (t : List ℕ) (l : Link) → length (added t l) ≡ length t
-unfolding added
+unfolding added raised
 length-added t l = simp length-set
 
 -- and after many

@@ -38,6 +38,13 @@ other-first : (a b i j : ℕ) → a < 128 → b < 128 → i < 128 → j < 128 �
 unfolding spot
 other-first a b i j ha hb hi hj e s = omega arith
 
+pub one-pair : (a b i j : ℕ) → a < 128 → b < 128 → i < 128 → j < 128 → spot a b ≡ spot i j → ((a ≡ i) × (b ≡ j)) ⊎ ((a ≡ j) × (b ≡ i))
+one-pair a b i j ha hb hi hj e =
+    ⊎-elim
+    (λ t. let s = eqb→eq a i t in inl (s, same-first a b i j ha hb hi hj e s))
+    (λ f. inr (other-first a b i j ha hb hi hj e (neqb→ne a i f)))
+    (decide (eqb a i))
+
 -- a link between bones below 128 stands in the spot of the pairs that it joins, and in no other
 pub joins-spot : (l : Link) (i j : ℕ) → l .a < 128 → l .b < 128 → i < 128 → j < 128 → joins l i j ≡ eqb (spot i j) (spot (l .a) (l .b))
 unfolding joins

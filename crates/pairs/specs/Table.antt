@@ -1,6 +1,6 @@
 -- The pair table: 128 by 128 tallies in one flat run. A pair's tally stands once, in the row of its greater bone, so that every table
 -- holds a symmetric tally.
-use Prim.Native.Nat.{ℕ, _+_, _*_, _%_, _^_, min, max}
+use Prim.Native.Nat.{ℕ, _+_, _*_, _-_, _%_, _^_, min, max}
 use mathlib.Core.List.{List, [], _∷_}
 use lib.ListN.{getD, set}
 use Rattle.meaning.specs.declared.Link.{Link}
@@ -16,9 +16,16 @@ spot i j = max i j * 128 + min i j
 unfoldable pub held : List ℕ → Tally
 held t i j = getD t (spot i j) 0
 
--- the table after one link, and after a run of them, were added to it, the carry of 32 bits thrown away
+-- the table after x was added to a pair's tally, and after it was taken away, the carry of 32 bits thrown away
+unfoldable pub raised : List ℕ → ℕ → ℕ → ℕ → List ℕ
+raised t i j x = set t (spot i j) ((getD t (spot i j) 0 + x) % 2 ^ 32)
+
+unfoldable pub lowered : List ℕ → ℕ → ℕ → ℕ → List ℕ
+lowered t i j x = raised t i j (2 ^ 32 - x)
+
+-- the table after one link, and after a run of them, were added to it
 unfoldable pub added : List ℕ → Link → List ℕ
-added t l = set t (spot (l .a) (l .b)) ((getD t (spot (l .a) (l .b)) 0 + l .tally) % 2 ^ 32)
+added t l = raised t (l .a) (l .b) (l .tally)
 
 unfoldable pub tallied : List ℕ → List Link → List ℕ
 tallied t [] = t

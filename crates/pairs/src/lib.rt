@@ -1,4 +1,5 @@
 // The pair table: links judged and added to it, a pair's tally read from it, and the weight of a side of a pile.
+pub mod numbers;
 mod side;
 pub mod table;
 

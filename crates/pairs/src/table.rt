@@ -1,5 +1,5 @@
 // The pair table: links are judged, and then added to it.
-use joining::numbers::wide;
+use crate::numbers::wide;
 use links::judge;
 use links::link_at;
 use meaning::Judged;
@@ -8,7 +8,7 @@ ghost use Prim.Native.Nat.{_%_, _<_, _^_};
 ghost use Rattle.meaning.specs.Judge.{first};
 ghost use Rattle.meaning.specs.declared.Judged.the-variants.{Accepted};
 ghost use Rattle.links.specs.Links.{linksOf, whole, linksRows, tableRows};
-ghost use Rattle.pairs.specs.Table.{spot, held, added, tallied, filled};
+ghost use Rattle.pairs.specs.Table.{spot, held, raised, lowered, added, tallied, filled};
 
 // Where the tally of a pair stands.
 fn spot_of(i: usize, j: usize) -> usize
@@ -28,10 +28,34 @@ pub(crate) fn tally_at(table: &[u32; 16384], i: usize, j: usize) -> u32
 }
 
 // The same for any two numbers, each taken below 128.
+pub fn tally_of(table: &[u32; 16384], i: usize, j: usize) -> u32
+    ensures { λ r. ⌜ (r ≡ held (now (table .entry)) (i % 128) (j % 128)) × (r < 2 ^ 32) ⌝ }
+{
+    tally_at(table, i % 128, j % 128)
+}
+
+// The same as a term of a sum.
 pub fn tally_between(table: &[u32; 16384], i: usize, j: usize) -> u64
     ensures { λ r. ⌜ (r ≡ held (now (table .entry)) (i % 128) (j % 128)) × (r < 2 ^ 32) ⌝ }
 {
     wide(tally_at(table, i % 128, j % 128))
+}
+
+// A pair's tally made greater, and less, for any two numbers, each taken below 128; a carry of 32 bits is lost.
+pub fn raise_between(table: &mut [u32; 16384], i: usize, j: usize, by: u32)
+    ensures { λ _. ⌜ (now (table .exit) ≡ raised (now (table .entry)) (i % 128) (j % 128) by) × (held (now (table .entry)) (i % 128) (j % 128) < 2 ^ 32) ⌝ }
+{
+    let old = tally_of(table, i, j);
+    let at = spot_of(i % 128, j % 128);
+    table[at] = std::num::wrapping_add_u32(old, by);
+}
+
+pub fn lower_between(table: &mut [u32; 16384], i: usize, j: usize, by: u32)
+    ensures { λ _. ⌜ now (table .exit) ≡ lowered (now (table .entry)) (i % 128) (j % 128) by ⌝ }
+{
+    let old = tally_of(table, i, j);
+    let at = spot_of(i % 128, j % 128);
+    table[at] = std::num::wrapping_sub_u32(old, by);
 }
 
 // One link added; a sum past 32 bits loses its carry.
@@ -39,8 +63,7 @@ pub(crate) fn add_link(table: &mut [u32; 16384], a: u8, b: u8, tally: u16)
     requires { ⌜ (a < 128) × (b < 128) ⌝ }
     ensures { λ _. ⌜ now (table .exit) ≡ added (now (table .entry)) (record { a = a; b = b; tally = tally }) ⌝ }
 {
-    let at = spot_of(a as usize, b as usize);
-    table[at] = std::num::wrapping_add_u32(table[at], tally as u32);
+    raise_between(table, a as usize, b as usize, tally as u32);
 }
 
 // The same for any link, its ends taken below 128.

@@ -23,7 +23,7 @@ use Rattle.replay.specs.Rows.{recordRows}
 use Rattle.replay.proofs.Lawful.{few-rows}
 use Rattle.heaps.proofs.Parting.{judged-names}
 use Rattle.cutting.proofs.Carried.{rows-alike, filled-alike}
-use Rattle.runs.proofs.Continuing.{record-sound}
+use Rattle.cutting.proofs.Continuing.{record-sound}
 use Rattle.lines.specs.declared.Written.{Written}
 use Rattle.lines.specs.Writing.{Writes}
 use Rattle.texts.specs.Writers.{resultText, resultRows}

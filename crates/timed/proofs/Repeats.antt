@@ -13,7 +13,7 @@ use Rattle.links.specs.Links.{linksOf}
 use Rattle.links.proofs.LinksBytes.{length-linksOf}
 use Rattle.stored.specs.Records.{noLink}
 use Rattle.stored.proofs.RecordsKept.{take-next}
-use Rattle.runs.specs.declared.Answer.{Answer}
+use Rattle.cutting.specs.declared.Answer.{Answer}
 use Rattle.cutting.specs.Calls.{Grouping}
 use Rattle.timed.specs.Groups.{groupsOf, Repeated}
 

@@ -3,29 +3,30 @@
 use Prim.Native.Nat.{ℕ, zero, suc, _+_, _*_, _/_, _%_, _^_, _≤_, _<_, zero-le}
 use mathlib.Core.Path.{_≡_, refl, sym, _∙_, ap}
 use mathlib.Core.Logic.{⊎-elim}
-use mathlib.Core.Bool.{Bool, true, false, cond, not, _&&_}
+use mathlib.Core.Bool.{Bool, true, false, cond, not}
 use mathlib.Core.List.{List}
 use native.Mathlib.Nat.{le-refl, zero-div, add-zero}
 use native.Mathlib.Omega.{arith}
+use borrow.Author.Count.{below-more}
 use lib.Dec.{T, eqb, ltb, ltb→lt, nltb→le, not-T}
-use lib.ListN.{length, getD, List·getD-eq-default}
+use lib.ListN.{length, getD, set, List·getD-eq-default}
+use lib.Seq.{getD-set-same, getD-set-other}
 use Rattle.meaning.specs.Count.{Bones}
-use Rattle.meaning.specs.Heap.{Heap}
-use Rattle.meaning.proofs.Tests.{decide, is-false, left-of, right-of, both}
-use Rattle.joining.proofs.Filling.{cond-yes, cond-no}
-use Rattle.pairs.specs.Side.{sideOf}
-use Rattle.growing.specs.Blocks.{untaken}
-use Rattle.weighing.specs.Scan.{byteOf, halfOf, bitOf}
+use Rattle.meaning.specs.Heap.{pile}
+use Rattle.meaning.proofs.Tests.{decide, is-false, left-of}
+use Rattle.pairs.specs.Side.{heapOf, sideOf}
+use Rattle.weighing.specs.Moved.{moving, byteOf, halfOf, bitOf}
+use Rattle.weighing.proofs.Listing.{cond-yes, cond-no}
 
-pub bit-small : (S : Bones) (name : Heap) (free : Bones) (b : ℕ) → bitOf S name free b ≤ 1
+bit-small : (X : Bones) (b : ℕ) → bitOf X b ≤ 1
 unfolding bitOf
-bit-small S name free b = small (untaken S name free b)
+bit-small X b = small (X b)
   where
     small : (t : Bool) → cond t 1 0 ≤ 1
     small true = le-refl 1
     small false = zero-le
 
-pub byte-bit : (f : ℕ → ℕ) → ((i : ℕ) → f i ≤ 1) → (m : ℕ) → m < 8 → byteOf f / 2 ^ m % 2 ≡ f m
+byte-bit : (f : ℕ → ℕ) → ((i : ℕ) → f i ≤ 1) → (m : ℕ) → m < 8 → byteOf f / 2 ^ m % 2 ≡ f m
 unfolding byteOf halfOf
 byte-bit f h zero l = omega (arith, h 0, h 1, h 2, h 3, h 4, h 5, h 6, h 7)
 byte-bit f h (suc zero) l = omega (arith, h 0, h 1, h 2, h 3, h 4, h 5, h 6, h 7)
@@ -49,9 +50,9 @@ byte-from f b =
 place : (b : ℕ) → b / 8 * 8 + b % 8 ≡ b
 place b = omega arith
 
-bit-test : (S : Bones) (name : Heap) (free : Bones) (b : ℕ) → eqb (bitOf S name free b) 1 ≡ untaken S name free b
+bit-test : (X : Bones) (b : ℕ) → eqb (bitOf X b) 1 ≡ X b
 unfolding bitOf
-bit-test S name free b = back (untaken S name free b)
+bit-test X b = back (X b)
   where
     back : (t : Bool) → eqb (cond t 1 0) 1 ≡ t
     back true = refl
@@ -60,33 +61,40 @@ bit-test S name free b = back (untaken S name free b)
 nought-div : (m : ℕ) → m < 8 → 0 / 2 ^ m ≡ 0
 nought-div m l = zero-div (2 ^ m)
 
-untaken-none : (S : Bones) (name : Heap) (free : Bones) (b : ℕ) → (T (S b) → ⊥) → T (not (untaken S name free b))
-unfolding untaken
-untaken-none S name free b f = not-T (S b && free (name b)) (λ t. f (left-of (S b) (free (name b)) t))
-
 -- sixteen bytes of bits are a side
-pub side-bits : (S : Bones) (name : Heap) (free : Bones) (bytes : List ℕ) → ((b : ℕ) → T (S b) → b < 128) → length bytes ≡ 16 → ((j : ℕ) → j < 16 → getD bytes j 0 ≡ byteOf (λ i. bitOf S name free (j * 8 + i))) → (b : ℕ) → sideOf bytes b ≡ untaken S name free b
+pub side-bits : (X : Bones) (bytes : List ℕ) → ((b : ℕ) → T (X b) → b < 128) → length bytes ≡ 16 → ((j : ℕ) → j < 16 → getD bytes j 0 ≡ byteOf (λ i. bitOf X (j * 8 + i))) → (b : ℕ) → sideOf bytes b ≡ X b
 unfolding sideOf
-side-bits S name free bytes below long each b = ⊎-elim inside outside (decide (ltb b 128))
+side-bits X bytes below long each b = ⊎-elim inside outside (decide (ltb b 128))
   where
-    inside : T (ltb b 128) → eqb (getD bytes (b / 8) 0 / 2 ^ (b % 8) % 2) 1 ≡ untaken S name free b
+    inside : T (ltb b 128) → eqb (getD bytes (b / 8) 0 / 2 ^ (b % 8) % 2) 1 ≡ X b
     inside l =
         ap (λ (x : ℕ). eqb (x / 2 ^ (b % 8) % 2) 1) (each (b / 8) (omega (arith, ltb→lt b 128 l)))
-        ∙ ap (λ (x : ℕ). eqb x 1) (byte-bit (λ i. bitOf S name free (b / 8 * 8 + i)) (λ i. bit-small S name free (b / 8 * 8 + i)) (b % 8) (omega arith))
-        ∙ ap (λ (x : ℕ). eqb (bitOf S name free x) 1) (place b)
-        ∙ bit-test S name free b
+        ∙ ap (λ (x : ℕ). eqb x 1) (byte-bit (λ i. bitOf X (b / 8 * 8 + i)) (λ i. bit-small X (b / 8 * 8 + i)) (b % 8) (omega arith))
+        ∙ ap (λ (x : ℕ). eqb (bitOf X x) 1) (place b)
+        ∙ bit-test X b
 
-    outside : T (not (ltb b 128)) → eqb (getD bytes (b / 8) 0 / 2 ^ (b % 8) % 2) 1 ≡ untaken S name free b
+    outside : T (not (ltb b 128)) → eqb (getD bytes (b / 8) 0 / 2 ^ (b % 8) % 2) 1 ≡ X b
     outside l =
         ap (λ (x : ℕ). eqb (x / 2 ^ (b % 8) % 2) 1) (List·getD-eq-default bytes 0 (omega (arith, nltb→le b 128 l)))
         ∙ ap (λ (x : ℕ). eqb (x % 2) 1) (nought-div (b % 8) (omega arith))
-        ∙ sym (is-false (untaken S name free b) (untaken-none S name free b (λ t. omega (arith, below b t, nltb→le b 128 l))))
+        ∙ sym (is-false (X b) (not-T (X b) (λ t. omega (arith, below b t, nltb→le b 128 l))))
+
+-- one more byte
+pub stored-next : (l : List ℕ) (f : ℕ → ℕ) (m v : ℕ) → m < length l → ((y : ℕ) → y < m → getD l y 0 ≡ f y) → v ≡ f m → (y : ℕ) → y < m + 1 → getD (set l m v) y 0 ≡ f y
+stored-next l f m v below so e =
+    below-more (λ y. getD (set l m v) y 0 ≡ f y) m
+    (λ y h. getD-set-other l m y v 0 (λ q. omega arith) ∙ so y h)
+    (getD-set-same l m v 0 below ∙ e)
 
 -- a bone's bit, as the tests on the way to it say
-pub bit-one : (S : Bones) (name : Heap) (free : Bones) (b : ℕ) → T (S b) → T (free (name b)) → 1 ≡ bitOf S name free b
-unfolding bitOf untaken
-bit-one S name free b s f = cond-yes (S b && free (name b)) 1 0 (both (S b) (free (name b)) s f)
+pub bit-one : (X : Bones) (b : ℕ) → T (X b) → 1 ≡ bitOf X b
+unfolding bitOf
+bit-one X b t = sym (cond-yes (X b) 1 0 t)
 
-pub bit-nought : (S : Bones) (name : Heap) (free : Bones) (b : ℕ) → (T (S b) → T (free (name b)) → ⊥) → 0 ≡ bitOf S name free b
-unfolding bitOf untaken
-bit-nought S name free b f = cond-no (S b && free (name b)) 1 0 (not-T (S b && free (name b)) (λ t. f (left-of (S b) (free (name b)) t) (right-of (S b) (free (name b)) t)))
+pub bit-nought : (X : Bones) (b : ℕ) → (T (X b) → ⊥) → 0 ≡ bitOf X b
+unfolding bitOf
+bit-nought X b f = sym (cond-no (X b) 1 0 (not-T (X b) f))
+
+pub moving-pile : (n : ℕ) (names : List ℕ) (p : ℕ) (marks : List ℕ) (b : ℕ) → T (moving n names p marks b) → T (pile n (heapOf names) p b)
+unfolding moving
+moving-pile n names p marks b t = left-of (pile n (heapOf names) p b) _ t

@@ -1,7 +1,16 @@
--- The laws of scans and of the search.
-pub mod Blocks
-pub mod Picking
-pub mod Scanning
-pub mod Passing
+-- Laws of the search.
+pub mod Listing
+pub mod Gathering
+pub mod Laying
+pub mod Spreading
 pub mod Bits
+pub mod Rows
+pub mod Merged
+pub mod Taking
+pub mod Scanning
+pub mod Contracting
 pub mod Searching
+pub mod Ending
+pub mod Finding
+pub mod Noting
+pub mod Lone

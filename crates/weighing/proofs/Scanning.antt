@@ -1,184 +1,343 @@
--- The state of a pass as its arrays hold it: marks of the free blocks, attachments, and the names that the blocks taken will bear.
+-- What holds in a pass: bones reached from the one taken last, and what is known whenever the next one is to be taken.
 -- Assumes nothing.
-use Prim.Native.Nat.{ℕ, zero, suc, _+_, _*_, _≤_, _<_}
-use mathlib.Core.Path.{_≡_, refl, sym, _∙_, ap, subst}
+use Prim.Native.Nat.{ℕ, zero, suc, _+_, _-_, _*_, _≤_, _<_, _^_, zero-le}
+use mathlib.Core.Path.{_≡_, refl, sym, _∙_, ap, ap₂, subst}
 use mathlib.Core.Logic.{⊎-elim}
-use mathlib.Core.Bool.{Bool, true, false, cond, not, _&&_, Bool·beq}
+use mathlib.Core.Bool.{Bool, true, false, cond, not, _&&_, _||_}
 use mathlib.Core.List.{List}
-use native.Mathlib.Nat.{le-trans, le-of-eq}
+use native.Mathlib.Nat.{le-refl, not-suc-le-zero}
+use native.Mathlib.Numerals.{add-one}
 use native.Mathlib.Omega.{arith}
-use lib.Dec.{T, eqb, ltb, eqb→eq, ltb→lt, nltb→le, T-not}
-use lib.ListN.{length, getD, set, replicate, length-set, length-replicate}
+use borrow.Author.Tests.{leb-true}
+use lib.Dec.{T, eqb, leb, eqb→eq, le→leb}
+use lib.ListN.{length, getD, set, length-set, replicate, length-replicate}
 use lib.Seq.{getD-set-same, getD-set-other}
-use Rattle.meaning.specs.Count.{Bones, count}
+use Rattle.meaning.specs.Count.{Bones, sum}
 use Rattle.meaning.specs.Tally.{Tally, weight}
-use Rattle.meaning.specs.Heap.{Heap}
-use Rattle.meaning.proofs.Tests.{decide, taut, so, _⊃_, both, left-of, right-of, eq→eqb, neqb→ne}
+use Rattle.meaning.proofs.Tests.{decide, eq→eqb, neqb→ne, ne→neqb, left-of, right-of, same-test, is-false, is-true}
+use Rattle.meaning.proofs.Sums.{sum-next, sum-ext}
+use Rattle.meaning.proofs.Sets.{last-or-below}
 use Rattle.meaning.proofs.Totals.{Symmetric}
-use Rattle.meaning.proofs.Sums.{sum-ext, count-most}
-use Rattle.meaning.proofs.Sets.{some-intro}
-use Rattle.pairs.specs.Side.{heapOf}
-use Rattle.growing.specs.Blocks.{inBlock, taken, untaken, cross, BlockNames, LightSide, butFor}
-use Rattle.joining.specs.Marks.{marked, Grown, Filled}
-use Rattle.weighing.specs.Scan.{Picked}
-use Rattle.joining.proofs.Filling.{zeros}
-use Rattle.growing.proofs.Attach.{butFor-other}
-use Rattle.growing.proofs.Adjacency.{same-beq, Closed, Bounded, Greatest, cross-taken, cross-none, bounded-taken, bounded-none, out-weight, untaken-weight, last-weight}
-use Rattle.growing.proofs.Merging.{closed-set, Gone, Merged, Choice, merged-none, merged-taken, gone-u, count-fewer}
+use Rattle.meaning.proofs.Firm.{weight-same}
+use Rattle.weighing.specs.Lists.{listed, Once, swapped, marked}
+use Rattle.weighing.specs.Scan.{Tied, near, Looked, Reached, Passed}
+use Rattle.weighing.proofs.Taking.{tie, taken, tie-none, tie-taken, Bounded, bounded-none, bounded-taken, light-ties, out-weight}
+use Rattle.weighing.proofs.Listing.{cond-yes, cond-no, listed-at, listed-by, listed-place, listed-none, listed-next, listed-low, listed-less, listed-not, once-less, listed-sum, swapped-long, swapped-last, swapped-above, swapped-once, swapped-listed, swapped-free}
 
-pub record State (n : ℕ) (w : Tally) (k : ℕ) (S : Bones) (name : Heap) (free attach next : List ℕ) (last : ℕ) : Type 0 where
-  pub free-long : length free ≡ 128
-  pub next-long : length next ≡ 128
+-- ---- bones reached one by one
+
+pub reached-start : (w : Tally) (order : List ℕ) (u : ℕ) (attach : List ℕ) → length attach ≡ 128 → Reached w order u 0 attach attach 0 0 0
+unfolding sum
+reached-start w order u attach long =
+    record {
+      long = long;
+      grown = λ x. omega (arith, cond-no (listed order 0 x) (w u x) 0 (listed-none order x));
+      slow = λ x. omega arith;
+      nothing = λ e. refl;
+      within = λ h. absurd (not-suc-le-zero h);
+      at = λ h. absurd (not-suc-le-zero h);
+      greatest = λ i h. absurd (not-suc-le-zero h);
+      sums = refl;
+      most = le-refl 0;
+    }
+
+-- a bone that is to be reached has what it had
+pub reached-fresh : {w : Tally} {order : List ℕ} {u i m : ℕ} {attach₀ attach : List ℕ} {place top out : ℕ} → Reached w order u i attach₀ attach place top out → Once order m → i < m → getD attach (getD order i 0) 0 ≡ getD attach₀ (getD order i 0) 0
+reached-fresh {w} {order} {u} {i} so once here =
+    omega (arith, so .grown (getD order i 0), cond-no (listed order i (getD order i 0)) (w u (getD order i 0)) 0 (listed-not once i i (le-refl i) here))
+
+module _ {w : Tally} {order : List ℕ} {u i m : ℕ} {attach₀ attach attach′ : List ℕ} {place top out place′ top′ out′ : ℕ} (so : Reached w order u i attach₀ attach place top out) (once : Once order m) (here : i < m) (low : (x : ℕ) → getD attach₀ x 0 ≤ 2 ^ 40) (step : Looked w order u i attach attach′ place top out place′ top′ out′) where
+  abbrev b : ℕ
+  b = getD order i 0
+
+  -- the bone in place i was not reached before
+  fresh : getD attach b 0 ≡ getD attach₀ b 0
+  fresh = reached-fresh so once here
+
+  in-run : b < length attach
+  in-run = omega (arith, so .long, once .low i here)
+
+  stays : (x : ℕ) → (x ≡ b → ⊥) → getD attach′ x 0 ≡ getD attach x 0
+  stays x n = ap (λ (l : List ℕ). getD l x 0) (step .stored) ∙ getD-set-other attach b x _ 0 n
+
+  put : getD attach′ b 0 ≡ near w order u i attach
+  put = ap (λ (l : List ℕ). getD l b 0) (step .stored) ∙ getD-set-same attach b _ 0 in-run
+
+  is-near : near w order u i attach ≡ getD attach₀ b 0 + w u b
+  unfolding near
+  is-near = omega (arith, fresh)
+
+  before : (j : ℕ) → j < i → getD attach′ (getD order j 0) 0 ≡ getD attach (getD order j 0) 0
+  before j h = stays (getD order j 0) (λ e. omega (arith, once .once j i (omega arith) here e))
+
+  listed-before : (x : ℕ) → (x ≡ b → ⊥) → listed order (i + 1) x ≡ listed order i x
+  listed-before x n = listed-next order i x ∙ drop (listed order i x) (eqb b x) (ne→neqb b x (λ e. n (sym e)))
+    where
+      drop : (a e : Bool) → T (not e) → (a || e) ≡ a
+      drop true e t = refl
+      drop false true t = absurd t
+      drop false false t = refl
+
+  pub reached-next : Reached w order u (i + 1) attach₀ attach′ place′ top′ out′
+  reached-next =
+      record {
+        long = ap length (step .stored) ∙ length-set attach b _ ∙ so .long;
+        grown = λ x. ⊎-elim (λ e. subst (λ (y : ℕ). getD attach′ y 0 ≡ getD attach₀ y 0 + cond (listed order (i + 1) y) (w u y) 0) (sym (eqb→eq x b e)) grown-here) (λ n. grown-there x (neqb→ne x b n)) (decide (eqb x b));
+        slow = λ x. ⊎-elim (λ e. subst (λ (y : ℕ). getD attach′ y 0 ≤ getD attach₀ y 0 + 2 ^ 32) (sym (eqb→eq x b e)) (omega (arith, put, is-near, step .small))) (λ n. omega (arith, stays x (neqb→ne x b n), so .slow x)) (decide (eqb x b));
+        nothing = λ e. absurd (omega (arith, e));
+        within = λ h. ⊎-elim (λ s. omega (arith, s .0)) (λ s. omega (arith, s .0, so .within (positive s))) (step .best);
+        at = λ h. ⊎-elim
+            (λ s. s .1 ∙ sym put ∙ ap (λ (y : ℕ). getD attach′ (getD order y 0) 0) (sym (s .0)))
+            (λ s. s .1 ∙ so .at (positive s) ∙ sym (before place (so .within (positive s))) ∙ ap (λ (y : ℕ). getD attach′ (getD order y 0) 0) (sym (s .0)))
+            (step .best);
+        greatest = λ j h. ⊎-elim
+            (λ (e : j ≡ i). ⊎-elim (λ s. omega (arith, s .1, put, ap (λ (y : ℕ). getD attach′ (getD order y 0) 0) e)) (λ s. omega (arith, s .1, s .2, put, ap (λ (y : ℕ). getD attach′ (getD order y 0) 0) e)) (step .best))
+            (λ l. ⊎-elim (λ s. omega (arith, s .1, s .2, before j l, so .greatest j l)) (λ s. omega (arith, s .1, before j l, so .greatest j l)) (step .best))
+            (last-or-below i (subst (λ (z : ℕ). j < z) (add-one i) h));
+        sums = omega (arith, step .sums, so .sums, sum-next i (λ j. getD attach′ (getD order j 0) 0), sum-ext i (λ j. getD attach′ (getD order j 0) 0) (λ j. getD attach (getD order j 0) 0) before, put);
+        most = omega (arith, step .sums, so .most, is-near, step .small, low b);
+      }
+    where
+      positive : (place′ ≡ place) × (top′ ≡ top) × (near w order u i attach < top) → 0 < i
+      positive s = ⊎-elim (λ e. absurd (omega (arith, s .2, so .nothing (eqb→eq i 0 e)))) (λ n. omega (arith, neqb→ne i 0 n)) (decide (eqb i 0))
+
+      grown-here : getD attach′ b 0 ≡ getD attach₀ b 0 + cond (listed order (i + 1) b) (w u b) 0
+      grown-here = omega (arith, put, is-near, cond-yes (listed order (i + 1) b) (w u b) 0 (listed-at order (i + 1) i (omega arith)))
+
+      grown-there : (x : ℕ) → (x ≡ b → ⊥) → getD attach′ x 0 ≡ getD attach₀ x 0 + cond (listed order (i + 1) x) (w u x) 0
+      grown-there x n = stays x n ∙ so .grown x ∙ ap (λ (t : Bool). getD attach₀ x 0 + cond t (w u x) 0) (sym (listed-before x n))
+
+-- ---- the pass
+
+-- what is known when the bone in place `at` is to be taken; L are the bones of the pass
+pub record Scan (w : Tally) (k : ℕ) (L : Bones) (order joins attach : List ℕ) (count left at top : ℕ) : Type 0 where
+  pub once : Once order count
+  pub same : (b : ℕ) → listed order count b ≡ L b
+  pub joins-long : length joins ≡ 128
   pub attach-long : length attach ≡ 128
-  pub attached : (x : ℕ) → T (marked free x) → getD attach x 0 ≡ cross n w (taken S name (marked free)) (inBlock S name x)
-  pub bounded : Bounded n w S name (marked free) last
-  pub merged : Merged n w k S name (marked free) (heapOf next)
-  pub reps : (x : ℕ) → T (marked free x) → T (S x) × (name x ≡ x)
-  pub room : (x : ℕ) → getD attach x 0 + count n (marked free) * 70368744177664 ≤ 9007199254740992
+  pub few : left ≤ count
+  pub next : at < left
+  pub slow : (x : ℕ) → getD attach x 0 ≤ (count - left) * 2 ^ 32
+  pub ties : (x : ℕ) → T (listed order left x) → getD attach x 0 ≡ tie w (taken L (listed order left)) x
+  pub tops : top ≡ getD attach (getD order at 0) 0
+  pub greatest : (i : ℕ) → i < left → getD attach (getD order i 0) 0 ≤ top
+  pub bounded : Bounded w L (listed order left) (getD order left 0)
+  pub heavy : left < count → k ≤ sum left (λ i. getD attach (getD order i 0) 0)
+  pub tied : (i : ℕ) → left ≤ i → i + 1 < count → T (marked joins i) → Tied w k L (getD order (i + 1) 0) (getD order i 0)
 
-cond-on : (t : Bool) (a b : ℕ) → (T t → a ≡ b) → cond t a 0 ≡ cond t b 0
-cond-on true a b f = f tt
-cond-on false a b f = refl
+zeros : (m x : ℕ) → _≡_ {A = ℕ} (getD (replicate m 0) x 0) 0
+zeros zero x = refl
+zeros (suc m) zero = refl
+zeros (suc m) (suc x) = zeros m x
 
-untaken-in : (S : Bones) (name : Heap) (free : Bones) (b : ℕ) → T (S b) → T (free (name b)) → T (untaken S name free b)
-unfolding untaken
-untaken-in S name free b s f = both (S b) (free (name b)) s f
+pub scan-start : (w : Tally) → Symmetric w → (k : ℕ) (order joins : List ℕ) (count seed : ℕ) → Once order count → seed < count → length joins ≡ 128 → Scan w k (listed order count) order joins (replicate 128 0) count count seed 0
+scan-start w symmetric k order joins count seed once h long =
+    record {
+      once = once;
+      same = λ b. refl;
+      joins-long = long;
+      attach-long = length-replicate {A = ℕ} 128 0;
+      few = le-refl count;
+      next = h;
+      slow = λ x. omega (arith, zeros 128 x);
+      ties = λ x t. zeros 128 x ∙ sym (tie-none w (listed order count) (listed order count) x (λ b s. s));
+      tops = sym (zeros 128 (getD order seed 0));
+      greatest = λ i l. omega (arith, zeros 128 (getD order i 0));
+      bounded = bounded-none w symmetric (listed order count) (listed order count) (λ b s. s) (getD order count 0) (λ b s. s);
+      heavy = λ l. absurd (omega (arith, l));
+      tied = λ i l m t. absurd (omega (arith, l, m));
+    }
 
-untaken-out : (S : Bones) (name : Heap) (free : Bones) (b : ℕ) → T (not (free (name b))) → T (not (untaken S name free b))
-unfolding untaken
-untaken-out S name free b f = taut 2 (λ s o. (not o) ⊃ so (not (s && o))) tt (S b) (free (name b)) f
+-- sets that agree weigh the same, and are tied the same
+of-weight : (w : Tally) (L M : Bones) → ((b : ℕ) → L b ≡ M b) → (d : Bones) → weight 128 w L d ≡ weight 128 w M d
+of-weight w L M e d = weight-same 128 w w L M d d (λ i j hi hj. refl) (λ b h. e b) (λ b h. refl)
 
-module _ (n : ℕ) (w : Tally) (symmetric : Symmetric w) (k : ℕ) (S : Bones) (name : Heap) (below : (b : ℕ) → T (S b) → b < n) (most : n ≤ 128) where
-  -- the block that was picked
-  module _ (free attach next : List ℕ) (v : ℕ) (s : State n w k S name free attach next v) (u out : ℕ) (picked : Picked n (marked free) attach u out) where
-    pub picked-greatest : u < 128 → Greatest n w S name (marked free) u
-    picked-greatest h x t =
-        le-trans (le-of-eq (sym (s .attached x t))) (le-trans (picked .greatest h x (below x (s .reps x t .0)) t) (le-of-eq (s .attached u (picked .one h))))
+of-tied : (w : Tally) (k : ℕ) (L M : Bones) → ((b : ℕ) → L b ≡ M b) → (x y : ℕ) → Tied w k L x y → Tied w k M x y
+unfolding Tied
+of-tied w k L M e x y t d light = t d (omega (arith, light, of-weight w L M e d))
 
-    pub picked-weight : BlockNames S name → out ≡ weight n w S (taken S name (marked free))
-    picked-weight names =
-        picked .sums
-        ∙ sum-ext n _ _ (λ x h. cond-on (marked free x) _ _ (s .attached x))
-        ∙ out-weight n w symmetric S name (marked free) (λ b t. below (name b) (names .inside b t))
+one-term : (f : ℕ → ℕ) → sum 1 f ≡ f 0
+unfolding sum
+one-term f = omega arith
 
-    -- those that are free are a light side
-    pub picked-light : BlockNames S name → u < 128 → out < k → (p : ℕ) → T (not (marked free (name p))) → LightSide n w k S p name (marked free) out
-    picked-light names h light p first =
-        record {
-          moving = some-intro n (untaken S name (marked free)) u (below u (s .reps u (picked .one h) .0)) (untaken-in S name (marked free) u (s .reps u (picked .one h) .0) (subst (λ (x : ℕ). T (marked free x)) (sym (s .reps u (picked .one h) .1)) (picked .one h)));
-          staying = untaken-out S name (marked free) p first;
-          true-weight = picked-weight names ∙ sym (untaken-weight n w symmetric S name (marked free));
-          light = light;
-        }
+is-marked : (k top : ℕ) → k ≤ top → _≡_ {A = ℕ} (cond (leb k top) 1 0) 1
+is-marked k top h = ap (λ (x : Bool). cond {A = ℕ} x 1 0) (is-true (leb k top) (le→leb k top h))
 
-  -- one more block is taken
-  module _ (free attach next attach′ : List ℕ) (v u y : ℕ) (s : State n w k S name free attach next v) (isfree : T (marked free u)) (greatest : Greatest n w S name (marked free) u) (grown : Grown attach attach′ (butFor u (λ x. cross n w (inBlock S name u) (inBlock S name x))) 70368744177664) (choice : Choice n w k S name (marked free) (heapOf next) u y) where
-    small : u < 128
-    small = omega (arith, below u (s .reps u isfree .0))
+mark-at : (joins : List ℕ) (i v x : ℕ) → i < length joins → v ≡ x → i ≡ 0 → x ≡ 1 → T (marked (set joins i v) 0)
+unfolding marked
+mark-at joins i v x below e none one =
+    eq→eqb _ 1 (ap (λ (y : ℕ). getD (set joins i v) y 0) (sym none) ∙ getD-set-same joins i v 0 below ∙ e ∙ one)
 
-    closed : Closed (marked free) (marked (set free u 0)) u
-    closed = closed-set free u (s .free-long) small
+-- the bone in place `at` is taken: it stands in place left − 1
+module _ {w : Tally} (symmetric : Symmetric w) {k : ℕ} {L : Bones} {order joins attach : List ℕ} {count left at top : ℕ} (s : Scan w k L order joins attach count left at top) (order′ : List ℕ) (is : order′ ≡ swapped order at (left - 1)) (v : ℕ) (m : v ≡ cond (leb k top) 1 0) where
+  abbrev joins′ : List ℕ
+  joins′ = set joins (left - 1) v
 
-    still : (x : ℕ) → T (marked (set free u 0) x) → T (marked free x)
-    still x t = left-of (marked free x) (not (eqb x u)) (subst T (closed x) t)
+  abbrev u : ℕ
+  u = getD order at 0
 
-    not-u : (x : ℕ) → T (marked (set free u 0) x) → x ≡ u → ⊥
-    not-u x t = neqb→ne x u (right-of (marked free x) (not (eqb x u)) (subst T (closed x) t))
+  room : left ≤ 128
+  room = omega (arith, s .few, s .once .few)
 
-    pub count-taken : count n (marked (set free u 0)) < count n (marked free)
-    count-taken =
-        count-fewer n (marked (set free u 0)) (marked free) u (below u (s .reps u isfree .0)) isfree
-        (subst (λ (b : Bool). T (not b)) (sym (closed u)) (taut 2 (λ a e. e ⊃ so (not (a && not e))) tt (marked free u) (eqb u u) (eq→eqb u u refl)))
-        (λ x h t. still x t)
+  below : left - 1 < length joins
+  below = omega (arith, s .joins-long, s .next, room)
 
-    next-at : heapOf (set next u y) u ≡ y
-    unfolding heapOf
-    next-at = getD-set-same next u y 0 (omega (arith, s .next-long, small))
+  pub taken-once : Once order′ count
+  taken-once = subst (λ (l : List ℕ). Once l count) (sym is) (swapped-once order at left (s .once .long) (s .next) room (s .few) (s .once))
 
-    next-other : (x : ℕ) → (x ≡ u → ⊥) → heapOf (set next u y) x ≡ heapOf next x
-    unfolding heapOf
-    next-other x f = getD-set-other next u x y 0 f
+  pub taken-same : (b : ℕ) → listed order′ count b ≡ L b
+  taken-same b = ap (λ (l : List ℕ). listed l count b) is ∙ swapped-listed order at left (s .once .long) (s .next) room count b (s .few) ∙ s .same b
 
-    pub state-taken : State n w k S name (set free u 0) attach′ (set next u y) u
-    state-taken =
-        record {
-          free-long = length-set free u 0 ∙ s .free-long;
-          next-long = length-set next u y ∙ s .next-long;
-          attach-long = grown .long;
-          attached = λ x t.
-              grown .grown x
-              ∙ ap (λ (z : ℕ). z + butFor u (λ y. cross n w (inBlock S name u) (inBlock S name y)) x) (s .attached x (still x t))
-              ∙ ap (λ (z : ℕ). cross n w (taken S name (marked free)) (inBlock S name x) + z) (butFor-other u (λ y. cross n w (inBlock S name u) (inBlock S name y)) x (not-u x t))
-              ∙ sym (cross-taken n w symmetric S name (marked free) (marked (set free u 0)) u isfree closed (inBlock S name x));
-          bounded = bounded-taken n w symmetric S name (marked free) (marked (set free u 0)) u isfree closed v (s .bounded) greatest;
-          merged = merged-taken n w k S name (marked free) (marked (set free u 0)) (heapOf next) (heapOf (set next u y)) u isfree (s .reps u isfree .0) (s .reps u isfree .1) closed (s .merged) next-other (subst (Choice n w k S name (marked free) (heapOf next) u) (sym next-at) choice);
-          reps = λ x t. s .reps x (still x t);
-          room = λ x. omega (arith, s .room x, count-taken, grown .grown x, grown .slow x);
-        }
+  pub taken-free : (b : ℕ) → listed order′ (left - 1) b ≡ (listed order left b && not (eqb b u))
+  taken-free b = ap (λ (l : List ℕ). listed l (left - 1) b) is ∙ swapped-free order at left (s .once .long) (s .next) room (s .few) (s .once) b
 
-    pub gone-taken : Gone S name (marked (set free u 0)) u
-    gone-taken = gone-u n w k S name (marked free) (marked (set free u 0)) (heapOf next) (heapOf (set next u y)) u isfree (s .reps u isfree .0) (s .reps u isfree .1) closed
+  pub taken-last : getD order′ (left - 1) 0 ≡ u
+  taken-last = ap (λ (l : List ℕ). getD l (left - 1) 0) is ∙ swapped-last order at left (s .once .long) (s .next) room
 
-    -- where nothing is free any more and those taken before weigh k or more, so does u's attachment
-    pub lost-taken : BlockNames S name → (out : ℕ) → Picked n (marked free) attach u out → k ≤ out → ((x : ℕ) → x < n → T (not (marked (set free u 0) x))) → k ≤ getD attach u 0
-    lost-taken names out picked heavy none =
-        omega (arith, heavy, picked-weight free attach next v s u out picked names, last-weight n w symmetric S name (marked free) u only, s .attached u isfree)
+  taken-above : (i : ℕ) → left ≤ i → getD order′ i 0 ≡ getD order i 0
+  taken-above i h = ap (λ (l : List ℕ). getD l i 0) is ∙ swapped-above order at left (s .once .long) (s .next) room i h
+
+  u-free : T (listed order left u)
+  u-free = listed-at order left at (s .next)
+
+  pub u-low : u < 128
+  u-low = s .once .low at (omega (arith, s .next, s .few))
+
+  u-in : T (L u)
+  u-in = subst T (s .same u) (listed-less order left count u (s .few) u-free)
+
+  within : (b : ℕ) → T (listed order left b) → T (L b)
+  within b t = subst T (s .same b) (listed-less order left count b (s .few) t)
+
+  top-tie : top ≡ tie w (taken L (listed order left)) u
+  top-tie = s .tops ∙ s .ties u u-free
+
+  -- the bound goes on
+  pub taken-bounded : Bounded w L (listed order′ (left - 1)) u
+  taken-bounded =
+      bounded-taken w symmetric L (listed order left) (listed order′ (left - 1)) u u-low u-in u-free taken-free (getD order left 0) (s .bounded)
+      (λ x low t. let r = listed-place order left x t in
+      omega (arith, s .ties x t, top-tie, ap (λ (y : ℕ). getD attach y 0) (r .2), s .greatest (r .0) (r .1)))
+
+  -- and so do the ties
+  marked-here : T (marked joins′ (left - 1)) → k ≤ top
+  unfolding marked
+  marked-here t = tied-by (leb k top) refl
+    where
+      is-one : _≡_ {A = ℕ} (cond (leb k top) 1 0) 1
+      is-one = sym m ∙ sym (getD-set-same joins (left - 1) v 0 below) ∙ eqb→eq _ _ t
+
+      tied-by : (e : Bool) → leb k top ≡ e → k ≤ top
+      tied-by true q = leb-true k top q
+      tied-by false q = absurd (omega (arith, ap (λ (x : Bool). cond {A = ℕ} x 1 0) (sym q) ∙ is-one))
+
+  marked-there : (i : ℕ) → left ≤ i → T (marked joins′ i) → T (marked joins i)
+  unfolding marked
+  marked-there i h t = subst (λ (x : ℕ). T (eqb x 1)) (getD-set-other joins (left - 1) i v 0 (λ e. omega (arith, s .next, e))) t
+
+  pub taken-tied : (i : ℕ) → left - 1 ≤ i → i + 1 < count → T (marked joins′ i) → Tied w k L (getD order′ (i + 1) 0) (getD order′ i 0)
+  taken-tied i h l t =
+      ⊎-elim
+      (λ e. here (eqb→eq i (left - 1) e))
+      (λ n. there (omega (arith, neqb→ne i (left - 1) n, s .next, h)))
+      (decide (eqb i (left - 1)))
+    where
+      there : left ≤ i → Tied w k L (getD order′ (i + 1) 0) (getD order′ i 0)
+      there g =
+          subst (λ (x : ℕ). Tied w k L x (getD order′ i 0)) (sym (taken-above (i + 1) (omega (arith, g))))
+          (subst (λ (x : ℕ). Tied w k L (getD order (i + 1) 0) x) (sym (taken-above i g)) (s .tied i g l (marked-there i g t)))
+
+      here : i ≡ left - 1 → Tied w k L (getD order′ (i + 1) 0) (getD order′ i 0)
+      here e =
+          let next : i + 1 ≡ left = omega (arith, e, s .next) in
+          subst (λ (x : ℕ). Tied w k L x (getD order′ i 0)) (sym (ap (λ (x : ℕ). getD order′ x 0) next ∙ taken-above left (le-refl left)))
+          (subst (λ (x : ℕ). Tied w k L (getD order left 0) x) (sym (ap (λ (x : ℕ). getD order′ x 0) e ∙ taken-last))
+          (light-ties w symmetric L (listed order left) within k u (getD order left 0) (s .bounded) u-low u-free
+          (omega (arith, top-tie, marked-here (subst (λ (x : ℕ). T (marked joins′ x)) e t)))))
+
+  pub joins-long′ : length joins′ ≡ 128
+  joins-long′ = length-set joins (left - 1) v ∙ s .joins-long
+
+  -- nothing is left to take
+  pub passed-done : {before : List ℕ} → ((b : ℕ) → L b ≡ listed before count b) → left - 1 ≡ 0 → Passed w k before order′ joins′ count false 0 0
+  passed-done {before} of none =
+      record {
+        once = taken-once;
+        same = λ b. taken-same b ∙ of b;
+        long = joins-long′;
+        some-left = λ e. absurd (no e);
+        some-taken = λ e. absurd (no e);
+        true-weight = λ e. absurd (no e);
+        is-light = λ e. absurd (no e);
+        tied = λ e i l t. of-tied w k L (listed before count) of (getD order′ (i + 1) 0) (getD order′ i 0) (taken-tied i (omega (arith, none)) l t);
+        last = λ e l. last-marked l;
+      }
+    where
+      no : _≡_ {A = Bool} false true → ⊥
+      no e = subst T (sym e) tt
+
+      last-marked : 1 < count → T (marked joins′ 0)
+      last-marked l =
+          let one : left ≡ 1 = omega (arith, none, s .next) in
+          let first : at ≡ 0 = omega (arith, one, s .next) in
+          let all : k ≤ sum 1 (λ i. getD attach (getD order i 0) 0) = subst (λ (x : ℕ). k ≤ sum x (λ i. getD attach (getD order i 0) 0)) one (s .heavy (omega (arith, one, l))) in
+          let enough : k ≤ top = omega (arith, all, one-term (λ i. getD attach (getD order i 0) 0), s .tops, ap (λ (x : ℕ). getD attach (getD order x 0) 0) first) in
+          mark-at joins (left - 1) v (cond (leb k top) 1 0) below m none (is-marked k top enough)
+
+  module _ {attach′ : List ℕ} {place top′ out : ℕ} (some : 0 < left - 1) (r : Reached w order′ u (left - 1) attach attach′ place top′ out) where
+    free-tie : (x : ℕ) → T (listed order′ (left - 1) x) → getD attach′ x 0 ≡ tie w (taken L (listed order′ (left - 1))) x
+    free-tie x t =
+        omega (
+          arith,
+          r .grown x,
+          cond-yes (listed order′ (left - 1) x) (w u x) 0 t,
+          s .ties x (left-of (listed order left x) (not (eqb x u)) (subst T (taken-free x) t)),
+          tie-taken w symmetric L (listed order left) (listed order′ (left - 1)) u u-low u-in u-free taken-free x,
+        )
+
+    -- the sum is what the free bones weigh
+    pub out-is : out ≡ weight 128 w L (listed order′ (left - 1))
+    out-is =
+        r .sums
+        ∙ listed-sum (once-less taken-once (omega (arith, s .few))) (λ x. getD attach′ x 0)
+        ∙ sum-ext 128 _ _ (λ x h. under (listed order′ (left - 1) x) (getD attach′ x 0) (tie w (taken L (listed order′ (left - 1))) x) (free-tie x))
+        ∙ out-weight w symmetric L (listed order′ (left - 1)) (λ b t. within b (left-of (listed order left b) (not (eqb b u)) (subst T (taken-free b) t)))
       where
-        only : (x : ℕ) → T (marked free x) → x ≡ u
-        only x t = eqb→eq x u (taut 3 (λ a b e. (Bool·beq b (a && not e)) ⊃ a ⊃ (not b) ⊃ so e) tt (marked free x) (marked (set free u 0) x) (eqb x u) (same-beq _ _ (closed x)) t (none x (below x (s .reps x t .0))))
+        under : (t : Bool) (x y : ℕ) → (T t → x ≡ y) → cond t x 0 ≡ cond t y 0
+        under true x y e = e tt
+        under false x y e = refl
 
-  -- ---- the start of a pass: every block is free
-  module _ (names : BlockNames S name) (old free next : List ℕ) (filled : Filled old free (λ x. cond (S x && eqb (name x) x) 1 0) n) (rest : (x : ℕ) → n ≤ x → T (not (marked old x))) (next-long : length next ≡ 128) where
-    mark : (x : ℕ) → x < n → marked free x ≡ (S x && eqb (name x) x)
-    unfolding marked
-    mark x h = ap (λ (y : ℕ). eqb y 1) (filled .done x h) ∙ one-if (S x && eqb (name x) x)
-      where
-        one-if : (t : Bool) → eqb (cond t 1 0) 1 ≡ t
-        one-if true = refl
-        one-if false = refl
-
-    rest-shut : (x : ℕ) → n ≤ x → T (not (marked free x))
-    unfolding marked
-    rest-shut x h = subst (λ (y : ℕ). T (not (eqb y 1))) (sym (filled .left x h)) (rest x h)
-
-    start-reps : (x : ℕ) → T (marked free x) → T (S x) × (name x ≡ x)
-    start-reps x t = ⊎-elim inside outside (decide (ltb x n))
-      where
-        inside : T (ltb x n) → T (S x) × (name x ≡ x)
-        inside l =
-            let m = subst T (mark x (ltb→lt x n l)) t in
-            (left-of (S x) (eqb (name x) x) m, eqb→eq (name x) x (right-of (S x) (eqb (name x) x) m))
-
-        outside : T (not (ltb x n)) → T (S x) × (name x ≡ x)
-        outside l = absurd (T-not (marked free x) (rest-shut x (nltb→le x n l)) t)
-
-    pub start-free : (b : ℕ) → T (S b) → T (marked free (name b))
-    start-free b t =
-        subst T (sym (mark (name b) (below (name b) (names .inside b t))))
-        (both (S (name b)) (eqb (name (name b)) (name b)) (names .inside b t) (eq→eqb (name (name b)) (name b) (names .own b t)))
-
-    none-attached : (x : ℕ) → cross n w (taken S name (marked free)) (inBlock S name x) ≡ 0
-    none-attached x = cross-none n w S name (marked free) (inBlock S name x) start-free
-
-    pub start-greatest : (u : ℕ) → Greatest n w S name (marked free) u
-    start-greatest u x t = omega (arith, none-attached x)
-
-    pub state-start : (v : ℕ) → State n w k S name free (replicate 128 0) next v
-    state-start v =
+    pub passed-light : {before : List ℕ} → ((b : ℕ) → L b ≡ listed before count b) → out < k → Passed w k before order′ joins′ count true out (left - 1)
+    passed-light {before} of less =
         record {
-          free-long = filled .long;
-          next-long = next-long;
-          attach-long = length-replicate {A = ℕ} 128 0;
-          attached = λ x t. zeros 128 x ∙ sym (none-attached x);
-          bounded = bounded-none n w symmetric S name (marked free) v start-free;
-          merged = merged-none n w k S name (marked free) (heapOf next) start-free;
-          reps = start-reps;
-          room = λ x. omega (arith, zeros 128 x, count-most n (marked free));
+          once = taken-once;
+          same = λ b. taken-same b ∙ of b;
+          long = joins-long′;
+          some-left = λ e. some;
+          some-taken = λ e. omega (arith, some, s .few);
+          true-weight = λ e. out-is ∙ of-weight w L (listed before count) of (listed order′ (left - 1));
+          is-light = λ e. less;
+          tied = λ e. absurd (yes e);
+          last = λ e. absurd (yes e);
         }
+      where
+        yes : _≡_ {A = Bool} true false → ⊥
+        yes e = subst T e tt
 
-    -- nothing is left beside the first block that is taken
-    pub start-alone : (u : ℕ) → u < 128 → ((x : ℕ) → x < n → T (not (marked (set free u 0) x))) → (b : ℕ) → T (S b) → name b ≡ u
-    start-alone u small none b t =
-        eqb→eq (name b) u
-        (taut 3 (λ a c e. (Bool·beq c (a && not e)) ⊃ a ⊃ (not c) ⊃ so e) tt (marked free (name b)) (marked (set free u 0) (name b)) (eqb (name b) u)
-        (same-beq _ _ (closed-set free u (filled .long) small (name b))) (start-free b t) (none (name b) (below (name b) (names .inside b t))))
+    pub scan-next : (out < k → ⊥) → Scan w k L order′ joins′ attach′ count (left - 1) place top′
+    scan-next not-light =
+        record {
+          once = taken-once;
+          same = taken-same;
+          joins-long = joins-long′;
+          attach-long = r .long;
+          few = omega (arith, s .few);
+          next = r .within some;
+          slow = λ x. omega (arith, r .slow x, s .slow x, s .few, some);
+          ties = free-tie;
+          tops = r .at some;
+          greatest = r .greatest;
+          bounded = subst (Bounded w L (listed order′ (left - 1))) (sym taken-last) taken-bounded;
+          heavy = λ l. omega (arith, r .sums, not-light);
+          tied = taken-tied;
+        }

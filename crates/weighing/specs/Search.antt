@@ -1,14 +1,15 @@
 -- What the search gives: a lawful cut of the first pile that has a light split, or that no pile has one.
-use Prim.Native.Nat.{ℕ, _≤_, _<_, min}
+use Prim.Native.Nat.{ℕ, _≤_, _<_, _^_}
 use mathlib.Core.Path.{_≡_}
-use mathlib.Core.Bool.{Bool, true, false}
+use mathlib.Core.Bool.{Bool, true, false, not}
 use mathlib.Core.List.{List}
-use lib.Dec.{T}
-use lib.ListN.{replicate}
+use lib.Dec.{T, eqb}
+use lib.ListN.{length, replicate}
 use Rattle.weighing.specs.declared.search.Split.{Split}
-use Rattle.meaning.specs.Tally.{Tally}
+use Rattle.meaning.specs.Tally.{Tally, total}
 use Rattle.meaning.specs.Firm.{firm}
 use Rattle.meaning.specs.Heap.{Heap, Cut, Lawful, pile, stands}
+use Rattle.pairs.specs.Table.{held}
 use Rattle.pairs.specs.Side.{sideOf}
 
 -- the cut that a split states
@@ -23,3 +24,8 @@ FirmPiles n w k h from to = (p : ℕ) → from ≤ p → p < to → T (stands n 
 unfoldable pub Searched : ℕ → Tally → ℕ → Heap → ℕ → Split → Bool → Type 0
 Searched n w k h from r true = Lawful n w k h (cutOf r) × (from ≤ r .pile) × FirmPiles n w k h from (r .pile)
 Searched n w k h from r false = FirmPiles n w k h from n × (r .pile ≡ 0) × (r .weight ≡ 0) × (r .side ≡ replicate 16 0)
+
+-- the tallies between the n bones, each pair counted twice, come to less than 2 to the power 32
+pub record Small (n : ℕ) (t : List ℕ) : Type 0 where
+  pub long : length t ≡ 16384
+  pub sums : total n (held t) (λ i j. not (eqb i j)) < 2 ^ 32

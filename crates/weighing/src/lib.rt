@@ -1,6 +1,8 @@
 // Weighing: the pair table, the weight of a side, and the search for a light split. The table and the weight are those of `pairs`.
+pub mod degrees;
+mod list;
+mod merge;
 mod moved;
-mod pass;
 mod scan;
 pub mod search;
 

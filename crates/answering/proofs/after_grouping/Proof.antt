@@ -45,8 +45,8 @@ use Rattle.meaning.specs.Judge.{first as first-of}
 use Rattle.stored.proofs.RecordsLink.{R}
 use Rattle.lent.proofs.RecordsCalls.{calls-plain}
 use Rattle.lent.proofs.RecordsRead.{Own}
-use Rattle.runs.specs.declared.Answer.{Answer}
-use Rattle.runs.specs.declared.Answer.the-variants.{Gave, Refused}
+use Rattle.cutting.specs.declared.Answer.{Answer}
+use Rattle.cutting.specs.declared.Answer.the-variants.{Gave, Refused}
 use Rattle.cuts.specs.Record.{entrySize}
 use Rattle.lines.specs.declared.Written.{Written}
 use Rattle.lines.specs.Writing.{Writes}

@@ -47,7 +47,7 @@ use Rattle.meaning.specs.Judge.{first as first-of}
 use Rattle.stored.proofs.RecordsLink.{R}
 use Rattle.lent.proofs.RecordsCalls.{calls-to}
 use Rattle.lent.proofs.RecordsRead.{Own}
-use Rattle.runs.specs.declared.Answer.{Answer}
+use Rattle.cutting.specs.declared.Answer.{Answer}
 use Rattle.cutting.specs.Calls.{Grouping}
 use Rattle.cutting.proofs.grouping_records as grp
 use Rattle.cutting.proofs.grouping_records.Symbol as grp-def

@@ -2,10 +2,11 @@
 use mathlib.Core.Path.{sym, _∙_}
 use native.Mathlib.Omega.{arith}
 use lib.ListN.{length}
-use Rattle.links.proofs.LinksBytes.{linksOf-short}
+use Rattle.links.specs.Links.{linksOf}
+use Rattle.links.proofs.LinksBytes.{Short, linksOf-short}
 use Rattle.links.proofs.LinksRows.{first-accepted}
-use Rattle.runs.proofs.Answers.{checked-refused}
-use Rattle.cutting.proofs.Carried.{counts-pass, filled-alike, checking-core, checking-stop, checked-alike}
+use Rattle.cutting.proofs.Answers.{checked-refused}
+use Rattle.cutting.proofs.Carried.{counts-pass, filled-alike, filled-small, checking-core, checking-stop, checked-alike}
 use borrow.Author.Needs.{needs}
 use Rattle.cutting.proofs.check.checking.Statement.{statement}
 use Rattle.cutting.proofs.check.checking.Tie as tie
@@ -16,8 +17,14 @@ fill-requires c κs = search needs
 enum-told : tie.Need-enum-told
 enum-told c = search needs
 
+short : (c : tie.After-fill) → Short (linksOf (c .before .before .before .before .before .args .links .now))
+short c = linksOf-short _ (λ i. omega (arith, c .before .before .before .before .shared-slice-known .given i))
+
 check-table-requires : tie.Need-check-table-requires
-check-table-requires c κs = search needs
+check-table-requires c κs =
+    let a = c .before .before .before .before .before .before .before .before .before .args in
+    let f = c .before .before .before .before in
+    filled-small (a .n) (a .k) _ _ _ (f .fill .ensures .0) (c .before .before .enum-told .given .1) _ (f .fill .ensures .1) (short f)
 
 enum-known-number : tie.Need-enum-known-number
 enum-known-number c = search needs
@@ -28,10 +35,10 @@ same-length c = search needs
 returns : tie.Need-returns
 returns c =
     let a = c .before .before .before .before .before .before .before .before .before .before .before .before .args in
+    let f = c .before .before .before .before .before .before .before in
     let accepted = c .before .before .before .before .before .enum-told .given .1 in
-    let judged = c .before .before .before .before .before .before .before .fill .ensures .0 in
-    let short = linksOf-short (a .links .now) (λ i. omega (arith, c .before .before .before .before .before .before .before .before .before .before .before .shared-slice-known .given i)) in
-    let alike = filled-alike (a .n) (a .k) _ _ _ judged accepted _ (c .before .before .before .before .before .before .before .fill .ensures .1) short in
+    let judged = f .fill .ensures .0 in
+    let alike = filled-alike (a .n) (a .k) _ _ _ judged accepted _ (f .fill .ensures .1) (short f) in
     checked-alike (a .n) _ _ alike (a .k) _ _ _ _ _ _ (first-accepted _ _ (counts-pass (a .n) (a .k) _ _ (sym judged ∙ accepted)) ∙ checking-core (a .n) (a .k) _ _ (a .«record» .now) (length (a .labels .now)) _ alike (sym judged ∙ accepted)) (c .before .before .check-table .ensures)
 
 returns-2 : tie.Need-returns-2

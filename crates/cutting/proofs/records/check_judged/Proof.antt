@@ -2,7 +2,7 @@
 use mathlib.Core.Path.{refl, _∙_}
 use Rattle.links.proofs.LinksRows.{first-accepted}
 use borrow.Author.Needs.{needs}
-use Rattle.runs.proofs.Answers.{checked-refused}
+use Rattle.cutting.proofs.Answers.{checked-refused}
 use Rattle.cutting.proofs.Carried.{checked-alike}
 use Rattle.cutting.proofs.Judged.{judged-accepted, judged-refused}
 use Rattle.cutting.proofs.records.check_judged.Statement.{statement}
@@ -12,7 +12,7 @@ enum-told : tie.Need-enum-told
 enum-told c = search needs
 
 check-table-requires : tie.Need-check-table-requires
-check-table-requires c κs = search needs
+check-table-requires c κs = c .before .before .before .before .before .before .pre (c .before .before .enum-told .given .1) .1
 
 enum-known-judged : tie.Need-enum-known-judged
 enum-known-judged c = search needs
@@ -21,7 +21,9 @@ same-length : tie.Need-same-length
 same-length c = search needs
 
 returns : tie.Need-returns
-returns c = checked-alike _ _ _ (λ i j hi hj. refl) _ _ _ _ _ _ _ (first-accepted _ _ (c .before .before .before .before .before .before .before .before .pre (c .before .before .before .before .enum-told .given .1)) ∙ judged-accepted _ _ (c .before .before .before .before .enum-told .given .1)) (c .before .before .check-table .ensures)
+returns c =
+    let accepted = c .before .before .before .before .before .enum-told .given .1 in
+    checked-alike _ _ _ (λ i j hi hj. refl) _ _ _ _ _ _ _ (first-accepted _ _ (c .before .before .before .before .before .before .before .before .before .pre accepted .0) ∙ judged-accepted _ _ accepted) (c .before .before .check-table .ensures)
 
 returns-2 : tie.Need-returns-2
 returns-2 c = checked-refused _ _ _ _ _ _ _ _ (judged-refused _ _ _ _ (c .before .judged .given .1))

@@ -1,5 +1,5 @@
 -- `cutting::records::grouping_records` meets its contract: a walk of its MIR, by hand. A table of noughts is made in a local, lent to `fill_records`,
--- which fills it, and lent again, to be read, to `group_judged`, with the record and both spaces. All that the proof knows of the two is that
+-- which fills it, and lent again to `group_judged`, with the record and both spaces. All that the proof knows of the two is that
 -- each meets its contract.
 -- Assumes nothing.
 use mathlib.Core.Path.{_≡_, refl}
@@ -19,18 +19,19 @@ use prog.Wp.{Heap, WpFn, Tables}
 use ghost.Atoms.{Atoms}
 use contract.Monad.{Fun}
 use contract.Running.{givenOf, tables, tablesOf}
-use types.Kit.{Given, ‵, raw, _⊛_, ⋆, some, later, _$_, _∵_, !, qed, by, move, drop, group, use1, split, split3, join, fsplit, fjoin, feqL, suffices, frame, pick, await, done}
+use types.Kit.{Given, ‵, raw, _⊛_, ⋆, some, later, _$_, _∵_, !, qed, by, move, drop, group, use1, use3, split, split3, join, fsplit, fjoin, feqL, suffices, frame, pick, await, done}
 use types.Part.{whole, sub, look-in, agg, rep}
 use types.Run.{look, init, forget, stop, hop, fld, from, load, lit, addr, and-then, no-more, assigns, land, returns, enter, alloc1, alloc0, params1, pass1, pass0, free1, free0}
-use types.Tokens.{lft-new, lft-end, lent-back}
+use types.SemTy.{Body as Held}
+use types.Tokens.{lft-new, lft-end}
 use sound.WpLaws.{fmOf, WpFn-mono}
 use denote.RattleType.{owns}
 use denote.Laws.{Is, shows}
-use denote.Memory.{partAt}
+use denote.Memory.{partAt, mem as in-memory}
 use denote.Plain.{uint-vals, uint-tells, uint-makes}
 use denote.Builtin.{u8, u64}
-use denote.Lend.{lends-shr}
-use denote.Ref.{RefT, ShrRef}
+use denote.Lend.{lends-ref, ref-back}
+use denote.Ref.{RefT}
 use denote.Slice.{sliceVal, ShrSlice, MutSlice, Room, finally, slice-vals, shr-slice-tells, mut-slice-tells, shr-slice-copy}
 use denote.Signature.{plain}
 use denote.Steps.{owned, nothing, peeks}
@@ -43,27 +44,29 @@ use denote.Triple.Walked.{says, Stays, stay-none-slice, stay-none, gave-slice, w
 use denote.Exit.{yes}
 use Rattle.meaning.specs.declared.Link.{Link}
 use Rattle.meaning.specs.declared.Judged.{Judged}
+use Rattle.meaning.specs.declared.Judged.the-variants.{Accepted}
 use Rattle.meaning.specs.Judge.{first as first-of}
-use Rattle.links.specs.Links.{tableRows}
+use Rattle.links.specs.Links.{countRows}
 use Rattle.pairs.specs.Table.{held, filled}
+use Rattle.weighing.specs.Search.{Small}
 use Rattle.stored.proofs.RecordsLink.{R, J, told, IsJudged, typed-judged, made-judged}
 use Rattle.lent.proofs.RecordsCalls.{calls-to}
 use Rattle.lent.proofs.RecordsRead.{Own}
 use Rattle.lent.proofs.RecordsShort.{learns-short}
-use Rattle.lent.proofs.RecordsTable.{Table}
+use Rattle.lent.proofs.RecordsTable.{Table, OwnTable}
 use Rattle.lent.proofs.RecordsLocal.{tableTy, noughts, noughts-typed, lies-noughts, lies-room}
 use Rattle.lent.proofs.RecordsFill.{FillRecords, calls-fill}
 use Rattle.lent.proofs.fill_records.Symbol as fill-def
 use Rattle.lent.proofs.fill_records.Symbol.{name as #fill-records}
 use Rattle.lent.proofs.fill_records.Met as fill-thm
-use Rattle.runs.specs.declared.Answer.{Answer}
+use Rattle.cutting.specs.declared.Answer.{Answer}
 use Rattle.replay.specs.Rows.{recordRows}
-use Rattle.runs.specs.Rows.{labelRow, spaceRow}
-use Rattle.runs.specs.Runs.{Grouped}
+use Rattle.cutting.specs.Rows.{labelRow, spaceRow}
+use Rattle.cutting.specs.Runs.{Grouped}
 use Rattle.cutting.specs.Calls.{Grouping}
-use Rattle.cutting.proofs.Judged.{judged-counts, judged-grouping}
-use Rattle.runs.proofs.Answer as Ans
-use Rattle.runs.proofs.Answer.Laws as Ans′
+use Rattle.cutting.proofs.Judged.{judged-asked, judged-grouping}
+use Rattle.cutting.proofs.Answer as Ans
+use Rattle.cutting.proofs.Answer.Laws as Ans′
 use Rattle.cutting.proofs.records.group_judged as core
 use Rattle.cutting.proofs.records.group_judged.Symbol as core-def
 use Rattle.cutting.proofs.records.group_judged.Symbol.{name as #group-judged}
@@ -114,19 +117,13 @@ module _ {M : Type 1} (𝓤 : URA M) (H : Heap 𝓤) (A : Atoms 𝓤) (W : Given
 
   -- the call of `group_judged` on a table t that lies in the local at b: what it is passed, and what it asks
   module _ (b : ℕ) (t : List ℕ) where
-    abbrev shared : GName → RefT (List ℕ)
-    shared γ = record { ptr = (b, 0); name = γ; now = t }
-
-    abbrev OwnShared : ℕ → GName → Fml
-    OwnShared β γ = ShrRef (named 0) (β ∷ []) Table .own (shared γ) (vptr b 0 ∷ [])
-
     abbrev to-core : ℕ → GName → Judged → Core 𝓤 H A mem run .Ghost
-    to-core β γ j = (((β ∷ [], (κ₁, (κ₂, (κ₃, tt)))), (fullShare, (q₁, (q₂, (q₃, tt)))), tt, (j, (shared γ, (n, (k, (y, (z, (s, tt))))))), (told j ∷ [], (vptr b 0 ∷ [], (vint w64 n ∷ [], (vint w64 k ∷ [], (slice-vals y, (slice-vals z, (slice-vals s, tt)))))))), tt)
+    to-core β γ j = (((β ∷ [], (κ₁, (κ₂, (κ₃, tt)))), (fullShare, (q₁, (q₂, (q₃, tt)))), tt, (j, (record { ptr = (b, 0); name = γ; now = t }, (n, (k, (y, (z, (s, tt))))))), (told j ∷ [], (vptr b 0 ∷ [], (vint w64 n ∷ [], (vint w64 k ∷ [], (slice-vals y, (slice-vals z, (slice-vals s, tt)))))))), tt)
 
-    goes-core : (β : ℕ) (γ : GName) (j : Judged) → IsJudged j → j ≡ first-of (tableRows n k true links)
-        → ent 𝓤 (⋆ 𝓤 H A (‵ (OwnShared β γ) ∷ ‵ (flft (β ∷ []) fullShare) ∷ ‵ OwnRecord ∷ ‵ (flft κ₁ q₁) ∷ ‵ OwnLabels ∷ ‵ (flft κ₂ q₂) ∷ ‵ OwnSpace ∷ ‵ (flft κ₃ q₃) ∷ [])) (Core 𝓤 H A mem run .pre (to-core β γ j))
+    goes-core : (β : ℕ) (γ : GName) (j : Judged) → IsJudged j → (j ≡ Accepted → (first-of (countRows n k true 0) ≡ Accepted) × Small n t)
+        → ent 𝓤 (⋆ 𝓤 H A (‵ (OwnTable b 0 (β ∷ []) γ t) ∷ ‵ (flft (β ∷ []) fullShare) ∷ ‵ OwnRecord ∷ ‵ (flft κ₁ q₁) ∷ ‵ OwnLabels ∷ ‵ (flft κ₂ q₂) ∷ ‵ OwnSpace ∷ ‵ (flft κ₃ q₃) ∷ [])) (Core 𝓤 H A mem run .pre (to-core β γ j))
     goes-core β γ j is e =
-        qed W (‵ (OwnShared β γ) ∷ ‵ (flft (β ∷ []) fullShare) ∷ ‵ OwnRecord ∷ ‵ (flft κ₁ q₁) ∷ ‵ OwnLabels ∷ ‵ (flft κ₂ q₂) ∷ ‵ OwnSpace ∷ ‵ (flft κ₃ q₃) ∷ []) ∵ says ! (judged-counts n k true links j e) $
+        qed W (‵ (OwnTable b 0 (β ∷ []) γ t) ∷ ‵ (flft (β ∷ []) fullShare) ∷ ‵ OwnRecord ∷ ‵ (flft κ₁ q₁) ∷ ‵ OwnLabels ∷ ‵ (flft κ₂ q₂) ∷ ‵ OwnSpace ∷ ‵ (flft κ₃ q₃) ∷ []) ∵ says ! e $
         nothing ! $ move ! (8 ∷ 0 ∷ []) $ join ! $ move ! (6 ∷ 0 ∷ []) $ join ! $ move ! (4 ∷ 0 ∷ []) $ join ! $ move ! (2 ∷ 0 ∷ []) $ join ! $ frame ! $
         nothing ! $ move ! (4 ∷ 0 ∷ []) $ fjoin ! $ move ! (3 ∷ 0 ∷ []) $ fjoin ! $ move ! (2 ∷ 0 ∷ []) $ fjoin ! $ owned ! u64 (Is u64) (uint-makes 𝓤 H A W w64) k (vint w64 k ∷ []) (refl, gk) $ fjoin ! $
         owned ! u64 (Is u64) (uint-makes 𝓤 H A W w64) n (vint w64 n ∷ []) (refl, gn) $ fjoin ! $ move ! (1 ∷ 0 ∷ []) $ fjoin ! $ owned ! J (Is J) (made-judged 𝓤 H A W) j (told j ∷ []) is $ fjoin ! $ done !
@@ -153,11 +150,11 @@ module _ {M : Type 1} (𝓤 : URA M) (H : Heap 𝓤) (A : Atoms 𝓤) (W : Given
         assigns ! (agg ! (and-then ! (load ! (from ! (stop !)) (look ! 15 refl)) (and-then ! (load ! (from ! (fld ! refl (stop !))) (look-in ! 26 (sub ! 1 refl (whole !)))) (no-more !)))) (from ! (stop !)) (init ! 13 refl (tt, (tt, (record { fits = room-z .0 }, tt)))) $
         assigns ! (addr ! (from ! (fld ! refl (hop ! (look-in ! 24 (sub ! 0 refl (whole !))) (stop !))))) (from ! (stop !)) (init ! 11 refl (tt, tt)) $
         assigns ! (agg ! (and-then ! (load ! (from ! (stop !)) (look ! 11 refl)) (and-then ! (load ! (from ! (fld ! refl (stop !))) (look-in ! 24 (sub ! 1 refl (whole !)))) (no-more !)))) (from ! (stop !)) (init ! 9 refl (tt, (tt, (record { fits = room-s .0 }, tt)))) $
-        -- the filled table is lent, to be read
+        -- the filled table is lent again
         lft-new ! tt (λ β. move ! (3 ∷ []) $
-        use1 W (later (some (λ (γ : GName). ‵ (OwnShared l₇ (filled j noughts links) β γ) ⊛ ‵ (flent (β ∷ []) (partAt Table fullShare (filled j noughts links) l₇ 0))))) (lends-shr 𝓤 H A W Table (named 0) (β ∷ []) fullShare (filled j noughts links) l₇ 0) $ await ! tt $ pick ! (λ γ. split ! $
+        use1 W (later (some (λ (γ : GName). ‵ (OwnTable l₇ 0 (β ∷ []) γ (filled j noughts links)) ⊛ ‵ (flent (β ∷ []) (Held (in-memory Table) l₇ 0 γ))))) (lends-ref 𝓤 H A W Table (named 0) (β ∷ []) (filled j noughts links) l₇ 0) $ await ! tt $ pick ! (λ γ. split ! $
         move ! (5 ∷ []) $ use1 W (‵ OwnRecord ⊛ ‵ OwnRecord) (shr-slice-copy 𝓤 H A W (named 0) κ₁ u8 .twice y (slice-vals y)) $ split ! $ move ! (2 ∷ 4 ∷ 0 ∷ 7 ∷ 8 ∷ 9 ∷ 10 ∷ 11 ∷ []) $ group ! 8 $
-        use1 W (raw (Core 𝓤 H A mem run .pre (to-core l₇ (filled j noughts links) β γ j))) (goes-core l₇ (filled j noughts links) β γ j isj ej) $
+        use1 W (raw (Core 𝓤 H A mem run .pre (to-core l₇ (filled j noughts links) β γ j))) (goes-core l₇ (filled j noughts links) β γ j isj (judged-asked n k true links j ej short)) $
         -- [what the core asks; what the record owns; the lender's part; what the links own; their token; _14; ..]
         calls-to ! (fmOf 𝓤 H (W .laws) 𝓣) core.ended (core.clauses 𝓤 H A mem run) known-core (to-core l₇ (filled j noughts links) β γ j)
         (λ r ws. Grouped (j ∷ labelRow n (length (z .now)) ∷ spaceRow n (length (s .now)) ∷ recordRows n (held (filled j noughts links)) k (y .now)) n (held (filled j noughts links)) k (y .now) (z .now) (ws .1 .1 .1 .1 .1 .0) (s .now) (ws .1 .1 .1 .1 .1 .1 .0) r) (λ r ws. id⊢ 𝓤 _)
@@ -165,9 +162,11 @@ module _ {M : Type 1} (𝓤 : URA M) (H : Heap 𝓤) (A : Atoms 𝓤) (W : Given
         (and-then ! (load ! (from ! (stop !)) (look ! 24 refl)) (and-then ! (load ! (from ! (stop !)) (look ! 9 refl)) (and-then ! (load ! (from ! (stop !)) (look ! 5 refl)) (no-more !)))))))) (λ u r ws e.
         peeks ! Ans.the-row (Is Ans.the-row) (shows 𝓤 H A Ans.the-row) r (u ∷ []) (λ is.
         -- the lifetime is ended, and the table is room again
-        move ! (1 ∷ []) $ use1 W (‵ (flft (β ∷ []) fullShare) ⊛ ‵ (flft κ₁ q₁) ⊛ ‵ (flft κ₂ q₂) ⊛ ‵ (flft κ₃ q₃) ⊛ ‵ ftrue) (id⊢ 𝓤 _) $ split ! $ lft-end ! tt $ move ! (1 ∷ []) $ split ! $ move ! (1 ∷ []) $ split3 ! $ move ! (4 ∷ 8 ∷ []) $ lent-back ! tt $
-        use1 W (‵ (froom tableTy l₇ 0)) (lies-room 𝓤 H A W (filled j noughts links) l₇) $
-        move ! (6 ∷ []) $ fsplit ! $ drop ! $ fsplit ! $ drop ! $ fsplit ! $ drop ! $ fsplit ! $ drop ! $ fsplit ! $ drop ! $ fsplit ! $ fsplit ! $ move ! (1 ∷ []) $ feqL ! (λ len₁.
+        move ! (1 ∷ []) $ use1 W (‵ (flft (β ∷ []) fullShare) ⊛ ‵ (flft κ₁ q₁) ⊛ ‵ (flft κ₂ q₂) ⊛ ‵ (flft κ₃ q₃) ⊛ ‵ ftrue) (id⊢ 𝓤 _) $ split ! $ lft-end ! tt $ move ! (1 ∷ []) $ split ! $ move ! (1 ∷ []) $ split3 ! $
+        -- [the tokens of labels and space; true; the record's token; β is over; the answer; the last values; what the record owns; the lender's part; ..]
+        move ! (6 ∷ []) $ fsplit ! $ drop ! $ fsplit ! $ move ! (6 ∷ 9 ∷ 0 ∷ []) $ use3 W (later (‵ (partAt Table fullShare (ws .1 .0) l₇ 0))) (ref-back 𝓤 H A W Table (β ∷ []) γ (ws .1 .0) l₇ 0) $ await ! tt $
+        use1 W (‵ (froom tableTy l₇ 0)) (lies-room 𝓤 H A W (ws .1 .0) l₇) $
+        move ! (1 ∷ []) $ fsplit ! $ drop ! $ fsplit ! $ drop ! $ fsplit ! $ drop ! $ fsplit ! $ fsplit ! $ move ! (1 ∷ []) $ feqL ! (λ len₁.
         move ! (1 ∷ []) $ fsplit ! $ fsplit ! $ move ! (1 ∷ []) $ feqL ! (λ len₂. move ! (1 ∷ []) $ drop ! $ move ! (5 ∷ []) $ drop ! $
         -- [the last record space; the last labels; room for _7; the tokens of labels, space and record; the answer; what the record owns; what the links own; their token; _14; ..; _0; ..]
         land ! (from ! (stop !)) (init ! 37 refl (EL.lawful Ans.the-type Ans′.the-laws 𝓤 H A W tt .typed r _ is .0)) $

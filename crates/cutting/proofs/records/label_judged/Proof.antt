@@ -21,11 +21,11 @@ returns-2 c =
     (sym (links-short _ _ (c .if1 .taken)) ∙ judged-accepted _ _ (c .before .enum-told .given .1), λ e. absurd (never-both _ _ _ e refl))
 
 name-groups-requires : tie.Need-name-groups-requires
-name-groups-requires c κs = c .before .before .before .before .pre (c .before .before .enum-told .given .1)
+name-groups-requires c κs = c .before .before .before .before .before .pre (c .before .before .before .enum-told .given .1)
 
 returns-3 : tie.Need-returns-3
 returns-3 c =
-    (sym (links-fit _ _ (c .before .before .if1 .left)) ∙ judged-accepted _ _ (c .before .before .before .enum-told .given .1), λ e. c .name-groups .ensures)
+    (sym (links-fit _ _ (c .before .before .before .if1 .left)) ∙ judged-accepted _ _ (c .before .before .before .before .enum-told .given .1), λ e. c .name-groups .ensures)
 
 pub label-judged-spec : {M : Type 1} → statement M
 label-judged-spec =

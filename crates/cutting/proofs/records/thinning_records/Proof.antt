@@ -68,7 +68,7 @@ use Rattle.cutting.specs.declared.Thinned.{Thinned}
 use Rattle.cutting.specs.Rows.{linkRow}
 use Rattle.cutting.specs.Thin.{refused}
 use Rattle.cutting.specs.Calls.{keeping, ThinningRecords}
-use Rattle.cutting.proofs.Judged.{judged-counts}
+use Rattle.cutting.proofs.Judged.{judged-asked}
 use Rattle.cutting.proofs.JudgedThin.{not-refused, records-refused, kept-fits, records-kept}
 use Rattle.cutting.proofs.RecordsLabels.{Labels, labelsTy, blanks, blanks-typed, lies-blanks, labels-room}
 use Rattle.cutting.proofs.RecordsThin.{Labelled, OwnSpace, LabelJudged, KeepLinks, gives-up, calls-label, calls-keep}
@@ -162,26 +162,26 @@ module _ {M : Type 1} (𝓤 : URA M) (H : Heap 𝓤) (A : Atoms 𝓤) (W : Given
       abbrev En : Env 𝓤 H
       En =
           (Thn′.mir, l₀) ∷ (tyInt w64, l₁) ∷ (tyInt w64, l₂) ∷ (slice imm, l₃) ∷ (sliceTy (pointer (named 1)), l₄) ∷ (tableTy, l₅) ∷ (labelsTy, l₆) ∷ (judged, l₇) ∷ (judged, l₈) ∷ (tyInt w64, l₉)
-          ∷ (tyRef erased mut tableTy, l₁₀) ∷ (tyRef erased imm tableTy, l₁₁) ∷ (tyInt w64, l₁₂) ∷ (tyInt w64, l₁₃) ∷ (tyRef erased mut labelsTy, l₁₄) ∷ (tyBool, l₁₅) ∷ (tyRef erased imm labelsTy, l₁₆)
+          ∷ (tyRef erased mut tableTy, l₁₀) ∷ (tyRef erased mut tableTy, l₁₁) ∷ (tyInt w64, l₁₂) ∷ (tyInt w64, l₁₃) ∷ (tyRef erased mut labelsTy, l₁₄) ∷ (tyBool, l₁₅) ∷ (tyRef erased imm labelsTy, l₁₆)
           ∷ (pointer erased, l₁₇) ∷ (sliceTy (pointer erased), l₁₈) ∷ []
 
       -- what is had where the refusal is tried: the table t, the labels ls, both slices, and the locals, of which those that are done with are room
       abbrev Had : List ℕ → List ℕ → Judged → Bool → List (Item 𝓤)
       Had t ls r s = ‵ (partAt Table fullShare t l₅ 0) ∷ ‵ (partAt Labels fullShare ls l₆ 0) ∷ ‵ (Own κ₀ x) ∷ ‵ (flft κ₀ q₀) ∷ ‵ (OwnSpace κ₁ z) ∷ ‵ (flft κ₁ q₁)
           ∷ vacant (sliceTy (pointer erased)) l₁₈ (vacant (pointer erased) l₁₇ (vacant (tyRef erased imm labelsTy) l₁₆ (holds tyBool l₁₅ (vbool s) (vacant (tyRef erased mut labelsTy) l₁₄ (vacant (tyInt w64) l₁₃ (vacant (tyInt w64) l₁₂
-          (vacant (tyRef erased imm tableTy) l₁₁ (vacant (tyRef erased mut tableTy) l₁₀ (vacant (tyInt w64) l₉ (holds judged l₈ (told r) (vacant judged l₇ (‵ (fdies labelsTy l₆) ∷ ‵ (fdies tableTy l₅)
+          (vacant (tyRef erased mut tableTy) l₁₁ (vacant (tyRef erased mut tableTy) l₁₀ (vacant (tyInt w64) l₉ (holds judged l₈ (told r) (vacant judged l₇ (‵ (fdies labelsTy l₆) ∷ ‵ (fdies tableTy l₅)
           ∷ holds (sliceTy (pointer (named 1))) l₄ (sliceVal (z .ptr) (length (z .now))) (holds (slice imm) l₃ (sliceVal (x .ptr) (length links)) (holds (tyInt w64) l₂ (vint w64 k) (holds (tyInt w64) l₁ (vint w64 n) (vacant Thn′.mir l₀ []))))))))))))))))
 
-      decides : (j : Judged) → j ≡ first-of (tableRows n k true links) → (r : Judged) → IsJudged r → (ls : List ℕ)
+      decides : (j : Judged) → j ≡ first-of (tableRows n k true links) → (r : Judged) → IsJudged r → (t ls : List ℕ)
           → Labelled n k j (length links) (length (z .now)) (filled j noughts links) r ls → Short links → (s : Bool) → s ≡ refused r
-          → Sq W (Had (filled j noughts links) ls r s) (runs (𝓣 .C) (𝓣 .Λ) En m.t-11 (atRet En Post))
-      decides j ej r isr ls el short s es =
+          → Sq W (Had t ls r s) (runs (𝓣 .C) (𝓣 .Λ) En m.t-11 (atRet En Post))
+      decides j ej r isr t ls el short s es =
           first ! $ branches ! (load ! (from ! (stop !)) (look ! 12 refl))
           -- refused: the room is given up as it is
           (λ yes′. calls-plain (thin.signature .params) (thin.ended .kept) Thn.the-row Thn′.lowered (Thn′.lowers .val-is) ! (fmOf 𝓤 H (W .laws) 𝓣) (thin.clauses 𝓤 H A mem run) known-tells (r, (0, tt)) (told r ∷ [], (vint w64 0 ∷ [], tt)) tt
           (made-judged 𝓤 H A W, (uint-makes 𝓤 H A W w64, tt)) (isr, ((refl, lit< tt), tt)) (factI 𝓤 (r ≡ Accepted → 0 < 2 ^ 32) _ (λ _. lit< tt)) (λ w. w ≡ keeping r 0) (λ w ws. id⊢ 𝓤 _)
           (and-then ! (load ! (from ! (stop !)) (look ! 27 refl)) (and-then ! (lit ! tt) (no-more !))) (λ w ew isw. land ! (from ! (stop !)) (init ! 40 refl (EL.lawful Thn.the-type Thn′.the-laws 𝓤 H A W tt .typed w _ isw .0)) $
-          use1 W (‵ (froom tableTy l₅ 0)) (lies-room 𝓤 H A W (filled j noughts links) l₅) $ move ! (1 ∷ []) $ use1 W (‵ (froom labelsTy l₆ 0)) (labels-room 𝓤 H A W ls l₆) $
+          use1 W (‵ (froom tableTy l₅ 0)) (lies-room 𝓤 H A W t l₅) $ move ! (1 ∷ []) $ use1 W (‵ (froom labelsTy l₆ 0)) (labels-room 𝓤 H A W ls l₆) $
           move ! (4 ∷ []) $ use1 W (‵ (finally R (z .name) (z .now))) (gives-up 𝓤 H A W κ₁ z) $ move ! (0 ∷ 4 ∷ 5 ∷ 3 ∷ 2 ∷ 1 ∷ []) $
           -- [the last room; the tokens of links and room; what the links own; room for _5 and _6; _18; ..]
           returns-within ! Post refl (look ! 40 refl) $ forget ! 12 refl $ forget ! 26 refl $ forget ! 32 refl $ forget ! 34 refl $ forget ! 36 refl $ forget ! 38 refl $ forget ! 40 refl $
@@ -202,7 +202,7 @@ module _ {M : Type 1} (𝓤 : URA M) (H : Heap 𝓤) (A : Atoms 𝓤) (W : Given
           (made-judged 𝓤 H A W, (uint-makes 𝓤 H A W w64, tt)) (isr, ((refl, fits), tt)) (factI 𝓤 (r ≡ Accepted
           → count < 2 ^ 32) _ (λ e. few j ej r (el .0) (not-refused r (sym es ∙ no-is s no)) ls (ek .0))) (λ w. w ≡ keeping r count) (λ w ws. id⊢ 𝓤 _)
           (and-then ! (load ! (from ! (stop !)) (look ! 27 refl)) (and-then ! (load ! (from ! (stop !)) (look ! 25 refl)) (no-more !))) (λ w ew isw. land ! (from ! (stop !)) (init ! 40 refl (EL.lawful Thn.the-type Thn′.the-laws 𝓤 H A W tt .typed w _ isw .0)) $
-          move ! (5 ∷ []) $ use1 W (‵ (froom tableTy l₅ 0)) (lies-room 𝓤 H A W (filled j noughts links) l₅) $ move ! (3 ∷ []) $
+          move ! (5 ∷ []) $ use1 W (‵ (froom tableTy l₅ 0)) (lies-room 𝓤 H A W t l₅) $ move ! (3 ∷ []) $
           use1 W (‵ (froom labelsTy l₆ 0)) (labels-room 𝓤 H A W ls l₆) $ move ! (4 ∷ 3 ∷ 5 ∷ 2 ∷ 1 ∷ 0 ∷ []) $
           returns ! (look ! 40 refl) $ forget ! 6 refl $ forget ! 8 refl $ forget ! 10 refl $ forget ! 12 refl $ forget ! 24 refl $ forget ! 26 refl $ forget ! 32 refl $ forget ! 34 refl $
           forget ! 36 refl $ forget ! 38 refl $ forget ! 40 refl $
@@ -234,13 +234,13 @@ module _ {M : Type 1} (𝓤 : URA M) (H : Heap 𝓤) (A : Atoms 𝓤) (W : Given
         assigns ! (of-opd ! (load ! (from ! (fld ! refl (stop !))) (look-in ! 32 (sub ! 1 refl (whole !))))) (from ! (stop !)) (init ! 16 refl (tt, record { fits = room-z .0 })) $
         assigns ! (addr ! (from ! (stop !))) (from ! (stop !)) (init ! 14 refl (tt, tt)) $ move ! (2 ∷ 3 ∷ []) $
         -- [the table; the labels; what the links own; their token; what the room owns; its token; _18; ..]
-        calls-label ! mem run (fmOf 𝓤 H (W .laws) 𝓣) known-label j n k (length links) (length (z .now)) l₅ (filled j noughts links) l₆ blanks isj gn gk (room .0) (room-z .0) (judged-counts n k true links j ej)
-        (λ α β γ δ. (and-then ! (load ! (from ! (stop !)) (look ! 29 refl)) (and-then ! (load ! (from ! (stop !)) (look ! 21 refl)) (and-then ! (load ! (from ! (stop !)) (look ! 39 refl)) (and-then ! (load ! (from ! (stop !)) (look ! 37 refl)) (and-then ! (load ! (from ! (stop !)) (look ! 19 refl)) (and-then ! (load ! (from ! (stop !)) (look ! 17 refl)) (and-then ! (load ! (from ! (stop !)) (look ! 15 refl)) (no-more !))))))))) (λ r ls el isr.
+        calls-label ! mem run (fmOf 𝓤 H (W .laws) 𝓣) known-label j n k (length links) (length (z .now)) l₅ (filled j noughts links) l₆ blanks isj gn gk (room .0) (room-z .0) (judged-asked n k true links j ej short)
+        (λ α β γ δ. (and-then ! (load ! (from ! (stop !)) (look ! 29 refl)) (and-then ! (load ! (from ! (stop !)) (look ! 21 refl)) (and-then ! (load ! (from ! (stop !)) (look ! 39 refl)) (and-then ! (load ! (from ! (stop !)) (look ! 37 refl)) (and-then ! (load ! (from ! (stop !)) (look ! 19 refl)) (and-then ! (load ! (from ! (stop !)) (look ! 17 refl)) (and-then ! (load ! (from ! (stop !)) (look ! 15 refl)) (no-more !))))))))) (λ r t ls el isr.
         land ! (from ! (stop !)) (init ! 26 refl (typed-judged 𝓤 H A W r isr)) $
         calls-plain (ref.signature .params) (ref.ended .kept) Boolean vbool bool-tells ! (fmOf 𝓤 H (W .laws) 𝓣) (ref.clauses 𝓤 H A mem run) known-refuses (r, tt) (told r ∷ [], tt) tt (made-judged 𝓤 H A W, tt) (isr, tt) (id⊢ 𝓤 _) (λ s. s ≡ refused r) (λ s ws. id⊢ 𝓤 _)
         (and-then ! (load ! (from ! (stop !)) (look ! 27 refl)) (no-more !)) (λ s es _. land ! (from ! (stop !)) (init ! 12 refl (tt, tt)) $
         forget ! 14 refl $ forget ! 16 refl $ forget ! 18 refl $ forget ! 20 refl $ forget ! 22 refl $ forget ! 28 refl $
-        decides l₀ l₁ l₂ l₃ l₄ l₅ l₆ l₇ l₈ l₉ l₁₀ l₁₁ l₁₂ l₁₃ l₁₄ l₁₅ l₁₆ l₁₇ l₁₈ j ej r isr ls el short s es)))))))))))))))))))))))
+        decides l₀ l₁ l₂ l₃ l₄ l₅ l₆ l₇ l₈ l₉ l₁₀ l₁₁ l₁₂ l₁₃ l₁₄ l₁₅ l₁₆ l₁₇ l₁₈ j ej r isr t ls el short s es)))))))))))))))))))))))
 
 pub thinning-records-spec : {M : Type 1} → stated.statement M
 unfolding code.routine tablesOf

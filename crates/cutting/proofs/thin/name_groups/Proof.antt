@@ -16,11 +16,11 @@ slice-aggregate-group-table-2 : tie.Need-slice-aggregate-group-table-2
 slice-aggregate-group-table-2 c = search needs
 
 group-table-requires : tie.Need-group-table-requires
-group-table-requires c κs = search needs
+group-table-requires c κs = c .before .before .before .before .before .pre .1
 
 returns : tie.Need-returns
 returns c =
-    labels-named _ _ _ _ _ (c .before .before .before .before .before .before .pre) refl (omega (arith, length-replicate {A = ℕ} (127 * entrySize) 0)) _ _ _ (c .before .group-table .ensures)
+    labels-named _ _ _ _ _ (c .before .before .before .before .before .before .before .pre .0) refl (omega (arith, length-replicate {A = ℕ} (127 * entrySize) 0)) _ _ _ (c .before .group-table .ensures)
 
 pub name-groups-spec : {M : Type 1} → statement M
 name-groups-spec =

@@ -15,14 +15,16 @@ returns c =
     thins-refused linkBytes _ _ _ _ _ _ 14 0 (links-short _ _ (omega (arith, c .if1 .taken, length-linksOf (a .links .now))))
 
 name-groups-requires : tie.Need-name-groups-requires
-name-groups-requires c κs = c .before .before .before .before .pre .0
+name-groups-requires c κs =
+    let s = c .before .before .before .before .before in
+    (s .pre .0, s .pre .3)
 
 keep-requires : tie.Need-keep-requires
-keep-requires c κs = c .before .before .before .before .if1 .left
+keep-requires c κs = c .before .before .before .before .before .if1 .left
 
-cast-t17 : tie.Need-cast-t17
-cast-t17 c =
-    let s = c .before .before .before .before .before .before .before .before .before .before in
+cast-t18 : tie.Need-cast-t18
+cast-t18 c =
+    let s = c .before .before .before .before .before .before .before .before .before .before .before in
     omega (arith, c .before .before .keep .ensures .0, kept-most (c .before .before .before .before .before .name-groups .last .1 .1 .1 .0) (linksOf (s .args .links .now)), length-linksOf (s .args .links .now), s .pre .1)
 
 same-length : tie.Need-same-length
@@ -30,13 +32,14 @@ same-length c = search needs
 
 returns-2 : tie.Need-returns-2
 returns-2 c =
-    let s = c .before .before .before .before .before .before .before .before .before .before in
+    let s = c .before .before .before .before .before .before .before .before .before .before .before in
     let links = linksOf (s .args .links .now) in
-    thins-accepted linkBytes _ _ _ _ _ _ (c .before .before .before .before .before .name-groups .last .1 .1 .1 .0) _ _
-    (links-fit _ _ (omega (arith, c .before .before .before .before .before .before .before .if1 .left, length-linksOf (s .args .links .now))))
-    (kept-same (s .args .n) _ _ _ links (counts-accepted _ _ _ _ (s .pre .0) .few-bones) (c .before .before .before .before .before .name-groups .ensures) (links-accepted (s .args .n) 0 links (s .pre .2)))
+    let named = c .before .before .before .before .before .name-groups in
+    thins-accepted linkBytes _ _ _ _ _ _ (named .last .1 .1 .1 .0) _ _
+    (links-fit _ _ (omega (arith, c .before .before .before .before .before .before .before .before .if1 .left, length-linksOf (s .args .links .now))))
+    (kept-same (s .args .n) _ _ _ links (counts-accepted _ _ _ _ (s .pre .0) .few-bones) (named .ensures) (links-accepted (s .args .n) 0 links (s .pre .2)))
     (c .before .before .keep .ensures .0) (c .before .before .keep .ensures .1)
 
 pub thin-table-spec : {M : Type 1} → statement M
 thin-table-spec =
-    tie.close (tie.spec returns name-groups-requires keep-requires cast-t17 same-length returns-2)
+    tie.close (tie.spec returns name-groups-requires keep-requires cast-t18 same-length returns-2)

@@ -1,8 +1,7 @@
 -- `heaps::heap::least_of` meets its contract. The invariant: no bone below b is on the side. Assumes nothing.
-use Prim.Native.Nat.{ℕ, zero-le, _≤_, _<_, _-_}
+use Prim.Native.Nat.{ℕ, _≤_, _<_, _-_, _/_}
 use mathlib.Core.Path.{sym, _∙_}
 use mathlib.Core.Bool.{not}
-use native.Mathlib.Nat.{not-suc-le-zero}
 use native.Mathlib.Omega.{arith}
 use lib.Dec.{T}
 use borrow.Author.Needs.{needs}
@@ -11,6 +10,7 @@ use Rattle.meaning.proofs.Tests.{holds, fails}
 use Rattle.pairs.specs.Side.{sideOf}
 use Rattle.pairs.proofs.Sides.{on-side}
 use Rattle.heaps.proofs.Parting.{least-here, least-none}
+use Rattle.heaps.proofs.Renaming.{byte-nought}
 use Rattle.heaps.proofs.heap.least_of.Statement.{statement}
 use Rattle.heaps.proofs.heap.least_of.Tie as tie
 
@@ -20,8 +20,20 @@ Inv-loop side n b₀ b = (b ≤ n) × ((x : ℕ) → x < b → T (not (sideOf si
 abbrev μ-loop : tie.MeasureT-loop
 μ-loop side n b₀ b = n - b
 
+first-byte-requires : tie.Need-first-byte-requires Inv-loop μ-loop
+first-byte-requires c κs = search needs
+
+mul-lesser : tie.Need-mul-lesser Inv-loop μ-loop
+mul-lesser c = omega (arith, c .first-byte .ensures .0)
+
+lesser-requires : tie.Need-lesser-requires Inv-loop μ-loop
+lesser-requires c κs = search needs
+
 loop-holds : tie.Need-loop-holds Inv-loop μ-loop
-loop-holds c = (zero-le, λ x l. absurd (not-suc-le-zero l))
+loop-holds c = (
+  omega (arith, c .lesser .ensures),
+  λ x l. byte-nought (c .before .before .args .side .now) x (c .before .first-byte .ensures .1 (x / 8) (omega (arith, c .lesser .ensures))),
+)
 
 in-side-requires : tie.Need-in-side-requires Inv-loop μ-loop
 in-side-requires c κs = search needs
@@ -31,7 +43,7 @@ cast-result c = omega arith
 
 returns : tie.Need-returns Inv-loop μ-loop
 returns c =
-    let a = c .before .before .before .before .args in
+    let a = c .before .before .before .before .before .before .args in
     let head = c .before .before .before .loop in
     sym (least-here (a .n) (sideOf (a .side .now)) (head .b) (omega arith)
     (holds (sym (on-side (a .side .now) (head .b) (omega arith) (c .before .in-side .ensures)) ∙ c .if1 .taken))
@@ -45,7 +57,7 @@ loop-less c = omega arith
 
 loop-again : tie.Need-loop-again Inv-loop μ-loop
 loop-again c =
-    let a = c .before .before .before .before .args in
+    let a = c .before .before .before .before .before .before .args in
     let head = c .before .before .before .loop in
     (omega arith, below-more _ (head .b) (head .inv .1) (fails (sym (on-side (a .side .now) (head .b) (omega arith) (c .before .in-side .ensures)) ∙ c .if1 .left)))
 
@@ -54,7 +66,7 @@ cast-result-2 c = omega arith
 
 returns-2 : tie.Need-returns-2 Inv-loop μ-loop
 returns-2 c =
-    let a = c .before .before .args in
+    let a = c .before .before .before .before .args in
     sym (least-none (a .n) (sideOf (a .side .now)) (λ x l. c .before .loop .inv .1 x (omega arith)))
 
 pub least-of-spec : {M : Type 1} → statement M
@@ -63,6 +75,9 @@ least-of-spec =
     (tie.spec
     Inv-loop
     μ-loop
+    first-byte-requires
+    mul-lesser
+    lesser-requires
     loop-holds
     in-side-requires
     cast-result

@@ -1,29 +1,26 @@
--- `heaps::heap::part` meets its contract. The invariant: the names of the bones below b are written. Assumes nothing.
-use Prim.Native.Nat.{ℕ, zero-le, _≤_, _-_}
-use mathlib.Core.Path.{_≡_, _∙_, ap, ap₂}
-use mathlib.Core.Bool.{Bool, cond}
-use mathlib.Core.List.{List}
+-- `heaps::heap::part` meets its contract. The invariant: the bones of the bytes passed have their names. Assumes nothing.
+use Prim.Native.Nat.{ℕ, zero-le, _+_, _*_, _≤_, _-_}
+use mathlib.Core.Path.{_≡_, sym, _∙_, ap}
+use mathlib.Core.Bool.{cond}
 use native.Mathlib.Omega.{arith}
-use lib.ListN.{getD, set, length-replicate, replicate}
+use lib.ListN.{length}
 use borrow.Author.Needs.{needs}
-use Rattle.meaning.specs.Heap.{Heap, parted}
+use Rattle.meaning.specs.Count.{least}
+use Rattle.meaning.specs.Heap.{parted}
 use Rattle.pairs.specs.Side.{heapOf, sideOf}
-use Rattle.pairs.proofs.Sides.{on-side}
 use Rattle.cuts.specs.Record.{cutOf}
-use Rattle.heaps.specs.Names.{names, written}
-use Rattle.heaps.proofs.Names.{written-none, written-next, written-all}
+use Rattle.heaps.specs.Names.{names, renamedIn}
+use Rattle.heaps.proofs.Names.{length-names, names-same}
+use Rattle.heaps.proofs.Renaming.{renamed-in, renamed-out, renamed-next}
 use Rattle.heaps.proofs.heap.part.Statement.{statement}
 use Rattle.heaps.proofs.heap.part.Tie as tie
 
--- a bone's name once the bones of a side have a new one
-after : List ℕ → List ℕ → ℕ → Heap
-after old side name b = cond (sideOf side b) name (heapOf old b)
-
 abbrev Inv-loop : tie.InvT-loop
-Inv-loop names n side name after₀ b₀ new b = (b ≤ 128) × (new ≡ written b (after names side name) (replicate 128 0))
+Inv-loop old n side name after₀ byte₀ after byte =
+    (byte ≤ 16) × (after ≡ names 128 (renamedIn 0 (byte * 8) (sideOf side) name (heapOf old)))
 
 abbrev μ-loop : tie.MeasureT-loop
-μ-loop names n side name after₀ b₀ new b = 128 - b
+μ-loop names n side name after₀ byte₀ after byte = 16 - byte
 
 lesser-requires : tie.Need-lesser-requires Inv-loop μ-loop
 lesser-requires c κs = search needs
@@ -31,49 +28,49 @@ lesser-requires c κs = search needs
 least-of-requires : tie.Need-least-of-requires Inv-loop μ-loop
 least-of-requires c κs = omega (arith, c .lesser .ensures)
 
+copied-requires : tie.Need-copied-requires Inv-loop μ-loop
+copied-requires c κs = search needs
+
 loop-holds : tie.Need-loop-holds Inv-loop μ-loop
-loop-holds c = (zero-le, written-none _ (replicate 128 0))
+loop-holds c =
+    let a = c .before .before .before .before .before .before .args in
+    (zero-le, c .copied .ensures ∙ names-same 128 _ _ (λ b l. sym (renamed-out (sideOf (a .entry .side)) (c .before .before .least-of .result) 0 0 (heapOf (a .names .now)) b (λ x y z. omega arith))))
 
-in-side-requires : tie.Need-in-side-requires Inv-loop μ-loop
-in-side-requires c κs = search needs
+rename-requires : tie.Need-rename-requires Inv-loop μ-loop
+rename-requires c κs = (omega arith, ap length (c .before .before .before .loop .inv .1) ∙ length-names 128 _)
 
-element-copy-out-renamed : tie.Need-element-copy-out-renamed Inv-loop μ-loop
-element-copy-out-renamed c = omega arith
-
-renamed-requires : tie.Need-renamed-requires Inv-loop μ-loop
-renamed-requires c κs = search needs
-
-array-write-after : tie.Need-array-write-after Inv-loop μ-loop
-array-write-after c = omega arith
-
-add-b : tie.Need-add-b Inv-loop μ-loop
-add-b c = omega arith
+add-byte : tie.Need-add-byte Inv-loop μ-loop
+add-byte c = omega arith
 
 loop-less : tie.Need-loop-less Inv-loop μ-loop
 loop-less c = omega arith
 
 loop-again : tie.Need-loop-again Inv-loop μ-loop
-unfolding after heapOf
 loop-again c =
-    let a = c .before .before .before .before .before .before .before .before .before .before .args in
-    let head = c .before .before .before .before .before .loop in
-    let side = a .entry .side in
-    let name = c .before .before .before .before .before .before .least-of .result in
-    let here = c .renamed .ensures ∙ ap (λ (t : Bool). cond t name (getD (a .names .now) (head .b) 0)) (on-side side (head .b) (omega arith) (c .before .before .in-side .ensures)) in (
+    let a = c .before .before .before .before .before .before .before .before .before .before .before .args in
+    let head = c .before .before .before .before .loop in
+    let side = sideOf (a .entry .side) in
+    let name = c .before .before .before .before .before .before .before .least-of .result in
+    let more : head .byte * 8 + 8 ≡ (head .byte + 1) * 8 = omega arith in (
       omega arith,
-      ap₂ (λ (l : List ℕ) (x : ℕ). set l (head .b) x) (head .inv .1) here ∙ written-next (head .b) (after (a .names .now) side name) (replicate 128 0) (omega arith),
+      renamed-next side name 128 0 (head .byte * 8) (head .byte * 8 + 8) (heapOf (a .names .now)) zero-le (omega arith) (head .inv .1) (c .rename .ensures)
+          ∙ ap (λ (m : ℕ). names 128 (renamedIn 0 m side name (heapOf (a .names .now)))) more,
     )
 
 returns : tie.Need-returns Inv-loop μ-loop
-unfolding after parted cutOf
+unfolding parted cutOf
 returns c =
-    let a = c .before .before .before .before .before .before .args in
-    let h = after (a .names .now) (a .entry .side) in
-    let end : c .before .loop .b ≡ 128 = omega arith in
-    c .before .loop .inv .1
-    ∙ ap (λ (m : ℕ). written m (h (c .before .before .least-of .result)) (replicate 128 0)) end
-    ∙ written-all (h (c .before .before .least-of .result)) (replicate 128 0) 128 (length-replicate {A = ℕ} 128 0)
-    ∙ ap (λ (m : ℕ). names 128 (h m)) (c .before .before .least-of .ensures ∙ ap (λ (m : ℕ). Rattle.meaning.specs.Count.least m (sideOf (a .entry .side))) (c .before .before .before .lesser .ensures))
+    let a = c .before .before .before .before .before .before .before .before .args in
+    let side = sideOf (a .entry .side) in
+    let old = heapOf (a .names .now) in
+    let name = c .before .before .before .before .least-of in
+    let named = name .ensures ∙ ap (λ (m : ℕ). least m side) (c .before .before .before .before .before .lesser .ensures) in
+    let end : c .before .loop .byte * 8 ≡ 128 = omega arith in (
+      c .before .loop .inv .1
+          ∙ ap (λ (m : ℕ). names 128 (renamedIn 0 m side (name .result) old)) end
+          ∙ names-same 128 _ _ (λ b l. renamed-in side (name .result) 0 128 old b zero-le l ∙ ap (λ (m : ℕ). cond (side b) m (old b)) named),
+      named,
+    )
 
 pub part-spec : {M : Type 1} → statement M
 part-spec =
@@ -83,12 +80,10 @@ part-spec =
     μ-loop
     lesser-requires
     least-of-requires
+    copied-requires
     loop-holds
-    in-side-requires
-    element-copy-out-renamed
-    renamed-requires
-    array-write-after
-    add-b
+    rename-requires
+    add-byte
     loop-less
     loop-again
     returns)

@@ -85,7 +85,7 @@ loop-again c =
     let s = c .before .before .before .before .before .before .before .before .before .before .before in
     let head = c .before .before .before .before .before .before .before .before .loop in
     let next = cuts-next (s .args .entries .now) (head .i) (omega arith) (c .before .before .before .before .before .before .read .ensures) in
-    let new = parted-names (s .args .n) (head .names) _ (s .pre .0) (head .inv .3) (narrow-at (s .args .entries .now) (head .i) (c .before .before .before .before .before .before .read .ensures)) (c .part .ensures) in (
+    let new = parted-names (s .args .n) (head .names) _ (s .pre .0) (head .inv .3) (narrow-at (s .args .entries .now) (head .i) (c .before .before .before .before .before .before .read .ensures)) (c .part .ensures .0) in (
       omega arith,
       head .inv .1 ∙ entries-next _ _ _ _ _ _ next _ (head .i) (new .0) (sym (c .before .before .before .before .judge-entry .ensures) ∙ c .before .before .enum-told .given .1),
       head .inv .2 ∙ left-next _ (held (s .args .table .now)) 0 _ _ _ next _ (new .0),

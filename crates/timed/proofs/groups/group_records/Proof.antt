@@ -52,8 +52,8 @@ use Rattle.lent.proofs.RecordsCalls.{calls-to, calls-plain}
 use Rattle.lent.proofs.RecordsRead.{Own}
 use Rattle.lent.proofs.RecordsAgain.{LentAgain, lends-again, comes-back}
 use Rattle.cutting.specs.Calls.{Grouping}
-use Rattle.runs.proofs.Answer as Ans
-use Rattle.runs.proofs.Answer.Laws as Ans′
+use Rattle.cutting.proofs.Answer as Ans
+use Rattle.cutting.proofs.Answer.Laws as Ans′
 use Rattle.cutting.proofs.grouping_records as grp
 use Rattle.cutting.proofs.grouping_records.Symbol as grp-def
 use Rattle.cutting.proofs.grouping_records.Symbol.{name as #grouping-records}

@@ -2,7 +2,7 @@
 -- Assumes nothing.
 use native.Mathlib.Omega.{arith}
 use borrow.Author.Needs.{needs}
-use Rattle.weighing.specs.Scan.{halfOf}
+use Rattle.weighing.specs.Moved.{halfOf}
 use Rattle.weighing.proofs.moved.half.Statement.{statement}
 use Rattle.weighing.proofs.moved.half.Tie as tie
 

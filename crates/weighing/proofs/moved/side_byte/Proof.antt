@@ -3,10 +3,7 @@
 use native.Mathlib.Omega.{arith}
 use Prim.Native.Nat.{_*_}
 use borrow.Author.Needs.{needs}
-use Rattle.meaning.specs.Heap.{pile}
-use Rattle.pairs.specs.Side.{heapOf}
-use Rattle.joining.specs.Marks.{marked}
-use Rattle.weighing.specs.Scan.{bitOf}
+use Rattle.weighing.specs.Moved.{bitOf, moving}
 use Rattle.weighing.proofs.Bits.{byte-from}
 use Rattle.weighing.proofs.moved.side_byte.Statement.{statement}
 use Rattle.weighing.proofs.moved.side_byte.Tie as tie
@@ -36,7 +33,7 @@ returns c =
       arith,
       c .before .half .ensures .0,
       c .half2 .ensures .0,
-      byte-from (bitOf (pile (a .n) (heapOf (a .names .now)) (a .p)) (heapOf (a .block .now)) (marked (a .free .now))) (a .j * 8),
+      byte-from (bitOf (moving (a .n) (a .names .now) (a .p) (a .marks .now))) (a .j * 8),
     )
 
 pub side-byte-spec : {M : Type 1} → statement M

@@ -5,28 +5,25 @@ use mathlib.Core.Path.{_≡_, refl, _∙_}
 use native.Mathlib.Nat.{not-suc-le-zero}
 use native.Mathlib.Omega.{arith}
 use lib.ListN.{length, getD, length-set}
-use Rattle.meaning.specs.Heap.{pile}
 use Rattle.meaning.proofs.Heaps.{pile-bone}
 use Rattle.pairs.specs.Side.{heapOf}
-use Rattle.joining.specs.Marks.{marked}
-use Rattle.weighing.specs.Scan.{byteOf, bitOf}
-use Rattle.joining.proofs.Filling.{stored-next}
-use Rattle.weighing.proofs.Bits.{side-bits}
+use Rattle.weighing.specs.Moved.{moving, byteOf, bitOf}
+use Rattle.weighing.proofs.Bits.{moving-pile, side-bits, stored-next}
 use Rattle.weighing.proofs.moved.side_of.Statement.{statement}
 use Rattle.weighing.proofs.moved.side_of.Tie as tie
 
 abbrev Inv-loop : tie.InvT-loop
-Inv-loop names block free n p side₀ j₀ side j =
-    (j ≤ 16) × (length side ≡ 16) × ((y : ℕ) → y < j → getD side y 0 ≡ byteOf (λ i. bitOf (pile n (heapOf names) p) (heapOf block) (marked free) (y * 8 + i)))
+Inv-loop names n p marks side₀ j₀ side j =
+    (j ≤ 16) × (length side ≡ 16) × ((y : ℕ) → y < j → getD side y 0 ≡ byteOf (λ i. bitOf (moving n names p marks) (y * 8 + i)))
 
 abbrev μ-loop : tie.MeasureT-loop
-μ-loop names block free n p side₀ j₀ side j = 16 - j
+μ-loop names n p marks side₀ j₀ side j = 16 - j
 
 loop-holds : tie.Need-loop-holds Inv-loop μ-loop
 loop-holds c = (zero-le, refl, λ y h. absurd (not-suc-le-zero h))
 
 side-byte-requires : tie.Need-side-byte-requires Inv-loop μ-loop
-side-byte-requires c κs = ((c .before .before .pre .0, c .loop-test .taken), c .before .before .pre .1)
+side-byte-requires c κs = (c .before .before .pre .0, c .before .before .pre .1, c .loop-test .taken)
 
 array-write-side : tie.Need-array-write-side Inv-loop μ-loop
 array-write-side c = omega arith
@@ -43,11 +40,12 @@ loop-again c =
     (omega arith, length-set (l .side) (l .j) (c .side-byte .result) ∙ l .inv .1, stored-next (l .side) _ (l .j) (c .side-byte .result) (omega (arith, l .inv .1)) (l .inv .2) (c .side-byte .ensures))
 
 returns : tie.Need-returns Inv-loop μ-loop
+unfolding moving
 returns c =
     let a = c .before .before .args in
     let l = c .before .loop in
-    side-bits (pile (a .n) (heapOf (a .names .now)) (a .p)) (heapOf (a .block .now)) (marked (a .free .now)) (l .side)
-    (λ b t. omega (arith, pile-bone (a .n) (heapOf (a .names .now)) (a .p) b t, c .before .before .pre .0))
+    side-bits (moving (a .n) (a .names .now) (a .p) (a .marks .now)) (l .side)
+    (λ b t. omega (arith, pile-bone (a .n) (heapOf (a .names .now)) (a .p) b (moving-pile (a .n) (a .names .now) (a .p) (a .marks .now) b t), c .before .before .pre .0))
     (l .inv .1) (λ j h. l .inv .2 j (omega (arith, c .loop-test .left)))
 
 pub side-of-spec : {M : Type 1} → statement M

@@ -1,0 +1,40 @@
+-- `cutting::check::tell_piles` meets its contract. Assumes nothing.
+use Prim.Native.Nat.{ℕ, min}
+use mathlib.Core.Path.{_≡_, refl, _∙_, ap, ap₂}
+use native.Mathlib.Omega.{arith}
+use Rattle.meaning.specs.Heap.{piles}
+use Rattle.pairs.specs.Side.{heapOf}
+use Rattle.pairs.specs.Table.{held}
+use Rattle.heaps.specs.Names.{written}
+use Rattle.cutting.specs.declared.Answer.the-variants.{Gave}
+use Rattle.cutting.proofs.Finish.{searched-few, searched-finished}
+use borrow.Author.Needs.{needs}
+use Rattle.cutting.proofs.check.tell_piles.Statement.{statement}
+use Rattle.cutting.proofs.check.tell_piles.Tie as tie
+
+search-requires : tie.Need-search-requires
+search-requires c κs = c .before .before .pre .1 .long
+
+write-names-requires : tie.Need-write-names-requires
+write-names-requires c κs = search needs
+
+count-piles-requires : tie.Need-count-piles-requires
+count-piles-requires c κs = search needs
+
+same-length : tie.Need-same-length
+same-length c = search needs
+
+returns : tie.Need-returns
+returns c =
+    let s = c .before .before .before .before .before .before .before .before in
+    let a = s .args in
+    let h = heapOf (a .names .now) in
+    let all : min (a .n) 128 ≡ a .n = omega (arith, s .pre) in (
+      ap₂ Gave (c .count-piles .ensures ∙ ap (λ (m : ℕ). piles m h) all) (searched-finished (a .n) (held (a .table .now)) (a .k) h _ _ (searched-few (a .n) _ _ (a .k) h 0 _ _ (s .pre .0) (s .pre .1) refl (c .before .before .before .before .before .search .ensures .1))),
+      c .before .before .before .write-names .ensures ∙ ap (λ (m : ℕ). written m h (a .labels .now)) all,
+    )
+
+pub tell-piles-spec : {M : Type 1} → statement M
+tell-piles-spec =
+    tie.close
+    (tie.spec search-requires write-names-requires count-piles-requires same-length returns)

@@ -1,0 +1,18 @@
+-- `cutting::firm::entry_of` meets its contract. Assumes nothing.
+use mathlib.Core.Path.{refl, sym, _∙_}
+use lib.ListN.{length-map}
+use Rattle.weighing.specs.Search.{cutOf as splitCut}
+use Rattle.cuts.specs.Record.{cutOf}
+use borrow.Author.Needs.{needs}
+use Rattle.cutting.proofs.firm.entry_of.Statement.{statement}
+use Rattle.cutting.proofs.firm.entry_of.Tie as tie
+
+cast-t3 : tie.Need-cast-t3
+cast-t3 c = search needs
+
+returns : tie.Need-returns
+unfolding cutOf splitCut
+returns c = (refl, sym (length-map (c .before .before .args .split .side) _) ∙ c .before .before .good .0 .1 .1 .1 .1 .1 .0 .1 .0 .1)
+
+pub entry-of-spec : {M : Type 1} → statement M
+entry-of-spec = tie.close (tie.spec cast-t3 returns)

@@ -1,3 +1,0 @@
--- The laws of sending.
-pub mod Flowing
-pub mod ProbeSent

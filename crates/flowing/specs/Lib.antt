@@ -1,2 +1,0 @@
--- What the promises of sending cite.
-pub mod Flow

@@ -1,0 +1,49 @@
+-- `heaps::heap::first_byte` meets its contract. The invariant: every byte below j is nought. Assumes nothing.
+use Prim.Native.Nat.{ℕ, zero-le, _≤_, _<_, _-_}
+use mathlib.Core.Path.{_≡_}
+use native.Mathlib.Omega.{arith}
+use lib.ListN.{getD}
+use borrow.Author.Count.{below-none, below-more}
+use Rattle.heaps.proofs.heap.first_byte.Statement.{statement}
+use Rattle.heaps.proofs.heap.first_byte.Tie as tie
+
+abbrev Inv-loop : tie.InvT-loop
+Inv-loop side j₀ j = (j ≤ 16) × ((i : ℕ) → i < j → getD side i 0 ≡ 0)
+
+abbrev μ-loop : tie.MeasureT-loop
+μ-loop side j₀ j = 16 - j
+
+loop-holds : tie.Need-loop-holds Inv-loop μ-loop
+loop-holds c = (zero-le, below-none _)
+
+element-copy-out-if1 : tie.Need-element-copy-out-if1 Inv-loop μ-loop
+element-copy-out-if1 c = omega arith
+
+returns : tie.Need-returns Inv-loop μ-loop
+returns c = (omega arith, c .before .before .before .loop .inv .1)
+
+add-j : tie.Need-add-j Inv-loop μ-loop
+add-j c = omega arith
+
+loop-less : tie.Need-loop-less Inv-loop μ-loop
+loop-less c = omega arith
+
+loop-again : tie.Need-loop-again Inv-loop μ-loop
+loop-again c = (omega arith, below-more _ _ (c .before .before .before .loop .inv .1) (omega arith))
+
+returns-2 : tie.Need-returns-2 Inv-loop μ-loop
+returns-2 c = (omega arith, λ j l. c .before .loop .inv .1 j (omega arith))
+
+pub first-byte-spec : {M : Type 1} → statement M
+first-byte-spec =
+    tie.close
+    (tie.spec
+    Inv-loop
+    μ-loop
+    loop-holds
+    element-copy-out-if1
+    returns
+    add-j
+    loop-less
+    loop-again
+    returns-2)

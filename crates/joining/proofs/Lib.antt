@@ -1,3 +1,0 @@
--- The laws of the small rules, and of filling marks.
-pub mod Carries
-pub mod Filling

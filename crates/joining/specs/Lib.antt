@@ -1,2 +1,0 @@
--- What the promises of marks and blocks cite.
-pub mod Marks

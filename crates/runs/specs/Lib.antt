@@ -1,4 +1,0 @@
--- What the promises of runs cite.
-pub mod Rows
-pub mod Finish
-pub mod Runs

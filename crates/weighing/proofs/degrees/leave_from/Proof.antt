@@ -1,0 +1,95 @@
+-- `weighing::degrees::leave_from` meets its contract. The invariant: what the bones of x below b took is lost.
+-- Assumes nothing.
+use Prim.Native.Nat.{ℕ, _≤_, zero-le, _+_, _-_}
+use mathlib.Core.Path.{subst, _≡_, sym, _∙_, ap}
+use mathlib.Core.Logic.{⊎-elim}
+use mathlib.Core.List.{List}
+use native.Mathlib.Omega.{arith}
+use lib.Dec.{not-T}
+use Rattle.meaning.proofs.Heaps.{pile-intro, pile-name}
+use Rattle.meaning.specs.Heap.{pile}
+use Rattle.pairs.proofs.TableHeld.{held-symmetric}
+use Rattle.pairs.specs.Table.{held}
+use Rattle.pairs.specs.Side.{heapOf}
+use Rattle.weighing.specs.Degrees.{lost, Notes, Lessened}
+use Rattle.weighing.proofs.Noting.{less-same, less-none, less-then, lost-none, lost-next, lost-skip, lost-all, lostBy}
+use Rattle.weighing.proofs.degrees.leave_from.Statement.{statement}
+use Rattle.weighing.proofs.degrees.leave_from.Tie as tie
+
+abbrev Inv-loop : tie.InvT-loop
+Inv-loop table names n x y degrees₀ bones b₀ degrees b = (b ≤ bones) × (Notes degrees₀ → Lessened (lostBy b bones (held table) (pile bones (heapOf names) x) (pile bones (heapOf names) y)) degrees₀ degrees)
+
+abbrev μ-loop : tie.MeasureT-loop
+μ-loop table names n x y degrees₀ bones b₀ degrees b = bones - b
+
+at-most-128-requires : tie.Need-at-most-128-requires Inv-loop μ-loop
+at-most-128-requires c κs = omega arith
+
+loop-holds : tie.Need-loop-holds Inv-loop μ-loop
+loop-holds c =
+    let a = c .before .args in
+    let n = c .at-most-128 .result in
+    let h = heapOf (a .names .now) in
+    (zero-le, λ notes. less-same (lost-none n (held (a .table .now)) (pile n h (a .x)) (pile n h (a .y))) (less-none notes))
+
+element-copy-out-if1 : tie.Need-element-copy-out-if1 Inv-loop μ-loop
+element-copy-out-if1 c = omega arith
+
+part-requires : tie.Need-part-requires Inv-loop μ-loop
+part-requires c κs = omega arith
+
+add-b : tie.Need-add-b Inv-loop μ-loop
+add-b c = omega arith
+
+loop-less : tie.Need-loop-less Inv-loop μ-loop
+loop-less c = omega arith
+
+loop-again : tie.Need-loop-again Inv-loop μ-loop
+unfolding heapOf
+loop-again c =
+    let a = c .before .before .before .before .before .args in
+    let l = c .before .before .before .loop in
+    let n = c .before .before .before .before .at-most-128 .result in
+    let w = held (a .table .now) in
+    let h = heapOf (a .names .now) in
+    let X = pile n h (a .x) in
+    let Y = pile n h (a .y) in
+    let symmetric = held-symmetric (a .table .now) in (
+      omega arith,
+      λ notes. let so = l .inv .1 notes in
+          ⊎-elim
+          (λ v. subst (λ (d : List ℕ). Lessened (lostBy (l .b + 1) n w X Y) (a .degrees .now) d) (sym (v .3))
+          (less-same (lost-next n w X Y symmetric (l .b) (pile-intro n h (a .x) (l .b) (omega arith) (v .0 .taken))) (less-then so (v .2 .ensures (so .notes)))))
+          (λ v. subst (λ (d : List ℕ). Lessened (lostBy (l .b + 1) n w X Y) (a .degrees .now) d) (sym (v .1))
+          (less-same (lost-skip n w X Y symmetric (l .b) (not-T (X (l .b)) (λ t. v .0 .left (pile-name n h (a .x) (l .b) t)))) so))
+          (c .if1 .came),
+    )
+
+returns : tie.Need-returns Inv-loop μ-loop
+returns c =
+    let a = c .before .before .before .args in
+    let l = c .before .loop in
+    let n = c .before .before .at-most-128 in
+    let w = held (a .table .now) in
+    let h = heapOf (a .names .now) in
+    let done : l .b ≡ n .result = omega arith in
+    λ notes. less-same
+    (λ b. ap (λ (m : ℕ). lostBy m (n .result) w (pile (n .result) h (a .x)) (pile (n .result) h (a .y)) b) done
+    ∙ lost-all (n .result) w h (a .x) (a .y) b
+    ∙ ap (λ (m : ℕ). lost m w h (a .x) (a .y) b) (n .ensures .0))
+    (l .inv .1 notes)
+
+pub leave-from-spec : {M : Type 1} → statement M
+leave-from-spec =
+    tie.close
+    (tie.spec
+    Inv-loop
+    μ-loop
+    at-most-128-requires
+    loop-holds
+    element-copy-out-if1
+    part-requires
+    add-b
+    loop-less
+    loop-again
+    returns)

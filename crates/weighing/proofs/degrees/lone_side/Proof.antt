@@ -1,0 +1,43 @@
+-- `weighing::degrees::lone_side` meets its contract: by whether u names the pile.
+-- Assumes nothing.
+use mathlib.Core.Path.{refl, sym, _∙_, ap}
+use mathlib.Core.Bool.{Bool, _||_}
+use native.Mathlib.Omega.{arith}
+use borrow.Author.Needs.{needs}
+use lib.Dec.{eqb}
+use Rattle.meaning.proofs.Tests.{fails}
+use Rattle.pairs.specs.Side.{heapOf}
+use Rattle.weighing.proofs.Lone.{side-none, moves-named, moves-lone}
+use Rattle.weighing.proofs.degrees.lone_side.Statement.{statement}
+use Rattle.weighing.proofs.degrees.lone_side.Tie as tie
+
+element-copy-out-bone : tie.Need-element-copy-out-bone
+element-copy-out-bone c = search needs
+
+bone-requires : tie.Need-bone-requires
+bone-requires c κs = search needs
+
+others-requires : tie.Need-others-requires
+others-requires c κs = search needs
+
+put-requires : tie.Need-put-requires
+put-requires c κs = (omega arith, refl, fails (side-none 16 (c .before .before .before .before .args .u)))
+
+returns : tie.Need-returns
+unfolding heapOf
+returns c =
+    let a = c .before .before .before .before .args in
+    λ b. c .others .ensures b ∙ sym (moves-named (a .n) (heapOf (a .names .now)) (a .u) b (sym (c .before .before .bone .ensures .0) ∙ c .before .if1 .taken))
+
+returns-2 : tie.Need-returns-2
+unfolding heapOf
+returns-2 c =
+    let a = c .before .before .before .before .before .args in
+    λ b. c .put .ensures .1 b
+    ∙ ap (λ (t : Bool). t || eqb b (a .u)) (side-none 16 b)
+    ∙ sym (moves-lone (a .n) (heapOf (a .names .now)) (a .u) b (λ e. c .before .before .if1 .left (c .before .before .before .bone .ensures .0 ∙ e)))
+
+pub lone-side-spec : {M : Type 1} → statement M
+lone-side-spec =
+    tie.close
+    (tie.spec element-copy-out-bone bone-requires others-requires put-requires returns returns-2)

@@ -1,0 +1,98 @@
+-- `weighing::degrees::note` meets its contract. The invariant: the bones below j have the tally of i in addition, and own is the sum of these.
+-- Assumes nothing.
+use Prim.Native.Nat.{ℕ, _≤_, zero-le, _+_, _%_, _^_, _-_}
+use mathlib.Core.Path.{_≡_, _∙_}
+use mathlib.Core.Bool.{cond}
+use native.Mathlib.Omega.{arith}
+use lib.ListN.{length-set, length, getD}
+use lib.Dec.{ltb}
+use Rattle.pairs.proofs.TableHeld.{held-symmetric}
+use Rattle.pairs.specs.Table.{held}
+use Rattle.pairs.specs.Side.{heapOf}
+use Rattle.weighing.specs.Degrees.{toward, mate}
+use Rattle.weighing.proofs.Noting.{toward-none, toward-next, not-nought, store-next, noted-next}
+use Rattle.weighing.proofs.degrees.note.Statement.{statement}
+use Rattle.weighing.proofs.degrees.note.Tie as tie
+
+abbrev Inv-loop : tie.InvT-loop
+Inv-loop table names i degrees₀ own₀ j₀ degrees own j = (j ≤ i) × (length degrees ≡ 128) × (own ≡ toward j (held table) (mate (heapOf names) i) i % 2 ^ 32) × ((b : ℕ) → getD degrees b 0 ≡ cond (ltb b j) ((getD degrees₀ b 0 + cond (mate (heapOf names) i b) (held table i b) 0) % 2 ^ 32) (getD degrees₀ b 0))
+
+abbrev μ-loop : tie.MeasureT-loop
+μ-loop table names i degrees₀ own₀ j₀ degrees own j = i - j
+
+loop-holds : tie.Need-loop-holds Inv-loop μ-loop
+loop-holds c = (zero-le, c .pre .1 .notes .long, omega (arith, toward-none (held (c .args .table .now)) (mate (heapOf (c .args .names .now)) (c .args .i)) (c .args .i)), λ b. rw (not-nought b))
+
+earlier-requires : tie.Need-earlier-requires Inv-loop μ-loop
+earlier-requires c κs = omega arith
+
+wrapping-add-u32-requires : tie.Need-wrapping-add-u32-requires Inv-loop μ-loop
+wrapping-add-u32-requires c κs = omega arith
+
+mul-wrapping-add-u32 : tie.Need-mul-wrapping-add-u32 Inv-loop μ-loop
+mul-wrapping-add-u32 c = omega arith
+
+element-copy-out-wrapping-add-u32 : tie.Need-element-copy-out-wrapping-add-u32 Inv-loop μ-loop
+element-copy-out-wrapping-add-u32 c = omega arith
+
+wrapping-add-u32-requires-2 : tie.Need-wrapping-add-u32-requires-2 Inv-loop μ-loop
+wrapping-add-u32-requires-2 c κs = omega arith
+
+mul-degrees : tie.Need-mul-degrees Inv-loop μ-loop
+mul-degrees c = omega arith
+
+element-write-degrees : tie.Need-element-write-degrees Inv-loop μ-loop
+element-write-degrees c = omega arith
+
+add-j : tie.Need-add-j Inv-loop μ-loop
+add-j c = omega arith
+
+loop-less : tie.Need-loop-less Inv-loop μ-loop
+loop-less c = omega arith
+
+loop-again : tie.Need-loop-again Inv-loop μ-loop
+loop-again c =
+    let a = c .before .before .before .before .before .before .args in
+    let l = c .before .before .before .before .before .loop in
+    let tally = c .before .before .before .earlier .ensures in (
+      omega arith,
+      length-set (l .degrees) (l .j) (c .wrapping-add-u322 .result) ∙ l .inv .1,
+      omega (arith, tally, l .inv .2, c .before .before .wrapping-add-u32 .ensures, toward-next (l .j) (held (a .table .now)) (mate (heapOf (a .names .now)) (a .i)) (a .i)),
+      store-next _ (λ b. getD (a .degrees .now) b 0) (l .degrees) (l .j) (c .wrapping-add-u322 .result) (omega arith) (λ e. omega (arith, e, tally, c .wrapping-add-u322 .ensures)) (l .inv .3),
+    )
+
+mul-degrees-2 : tie.Need-mul-degrees-2 Inv-loop μ-loop
+mul-degrees-2 c = omega arith
+
+element-write-degrees-2 : tie.Need-element-write-degrees-2 Inv-loop μ-loop
+element-write-degrees-2 c = omega arith
+
+returns : tie.Need-returns Inv-loop μ-loop
+returns c =
+    let s = c .before .before in
+    let l = c .before .loop in
+    let done : l .j ≡ s .args .i = omega arith in
+    noted-next (held (s .args .table .now)) (held-symmetric (s .args .table .now)) (heapOf (s .args .names .now)) (s .args .i) (s .pre .0) (l .degrees) (l .own) (s .pre .1) (l .inv .1)
+    (simp done at (l .inv .2))
+    (simp done at (l .inv .3))
+
+pub note-spec : {M : Type 1} → statement M
+note-spec =
+    tie.close
+    (tie.spec
+    Inv-loop
+    μ-loop
+    loop-holds
+    earlier-requires
+    wrapping-add-u32-requires
+    mul-wrapping-add-u32
+    element-copy-out-wrapping-add-u32
+    wrapping-add-u32-requires-2
+    mul-degrees
+    element-write-degrees
+    add-j
+    loop-less
+    loop-again
+    mul-degrees-2
+    element-write-degrees-2
+    returns)

@@ -1,0 +1,78 @@
+-- `weighing::degrees::others` meets its contract. The invariant: the mates of u below b are on the side.
+-- Assumes nothing.
+use Prim.Native.Nat.{ℕ, _≤_, zero-le, _+_, _-_}
+use mathlib.Core.Bool.{_||_, Bool, _&&_}
+use mathlib.Core.List.{List}
+use mathlib.Core.Path.{_≡_, refl, sym, _∙_, ap, subst}
+use mathlib.Core.Logic.{⊎-elim}
+use native.Mathlib.Omega.{arith}
+use lib.Dec.{eqb, ltb}
+use lib.ListN.{length}
+use Rattle.meaning.proofs.Tests.{fails}
+use Rattle.pairs.specs.Side.{heapOf, sideOf}
+use Rattle.weighing.specs.Degrees.{mate}
+use Rattle.weighing.proofs.Noting.{not-nought, not-self}
+use Rattle.weighing.proofs.Lone.{side-none, side-next, side-skip}
+use Rattle.weighing.proofs.degrees.others.Statement.{statement}
+use Rattle.weighing.proofs.degrees.others.Tie as tie
+
+abbrev Inv-loop : tie.InvT-loop
+Inv-loop names n u side₀ b₀ side b = (b ≤ n) × (length side ≡ 16) × ((x : ℕ) → sideOf side x ≡ (ltb x b && mate (heapOf names) u x))
+
+abbrev μ-loop : tie.MeasureT-loop
+μ-loop names n u side₀ b₀ side b = n - b
+
+loop-holds : tie.Need-loop-holds Inv-loop μ-loop
+loop-holds c =
+    let X = mate (heapOf (c .args .names .now)) (c .args .u) in
+    (zero-le, refl, λ x. side-none 16 x ∙ sym (ap (λ (t : Bool). t && X x) (not-nought x)))
+
+are-mates-requires : tie.Need-are-mates-requires Inv-loop μ-loop
+are-mates-requires c κs = omega arith
+
+put-requires : tie.Need-put-requires Inv-loop μ-loop
+put-requires c κs =
+    let a = c .before .before .before .before .before .args in
+    let l = c .before .before .before .before .loop in
+    (omega arith, l .inv .1, fails (l .inv .2 (l .b) ∙ ap (λ (t : Bool). t && mate (heapOf (a .names .now)) (a .u) (l .b)) (not-self (l .b))))
+
+add-b : tie.Need-add-b Inv-loop μ-loop
+add-b c = omega arith
+
+loop-less : tie.Need-loop-less Inv-loop μ-loop
+loop-less c = omega arith
+
+loop-again : tie.Need-loop-again Inv-loop μ-loop
+loop-again c =
+    let a = c .before .before .before .before .args in
+    let l = c .before .before .before .loop in
+    let X = mate (heapOf (a .names .now)) (a .u) in
+    let so =
+    ⊎-elim
+    (λ v. subst (λ (d : List ℕ). (length d ≡ 16) × ((x : ℕ) → sideOf d x ≡ (ltb x (l .b + 1) && X x))) (sym (v .3))
+    (v .2 .ensures .0, λ x. v .2 .ensures .1 x ∙ ap (λ (t : Bool). t || eqb x (l .b)) (l .inv .2 x) ∙ side-next X (l .b) x (sym (c .before .are-mates .ensures) ∙ v .0 .taken)))
+    (λ v. subst (λ (d : List ℕ). (length d ≡ 16) × ((x : ℕ) → sideOf d x ≡ (ltb x (l .b + 1) && X x))) (sym (v .1))
+    (l .inv .1, λ x. l .inv .2 x ∙ side-skip X (l .b) x (sym (c .before .are-mates .ensures) ∙ v .0 .left)))
+    (c .if1 .came) in
+    (omega arith, so .0, so .1)
+
+returns : tie.Need-returns Inv-loop μ-loop
+returns c =
+    let a = c .before .before .args in
+    let l = c .before .loop in
+    let done : l .b ≡ a .n = omega arith in
+    λ x. l .inv .2 x ∙ ap (λ (m : ℕ). ltb x m && mate (heapOf (a .names .now)) (a .u) x) done
+
+pub others-spec : {M : Type 1} → statement M
+others-spec =
+    tie.close
+    (tie.spec
+    Inv-loop
+    μ-loop
+    loop-holds
+    are-mates-requires
+    put-requires
+    add-b
+    loop-less
+    loop-again
+    returns)

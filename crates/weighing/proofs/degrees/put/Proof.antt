@@ -1,0 +1,54 @@
+-- `weighing::degrees::put` meets its contract: the bit was nought, so the byte has room for it.
+-- Assumes nothing.
+use Prim.Native.Nat.{ℕ, _+_, _*_, _/_, _%_, _^_}
+use mathlib.Core.Path.{_≡_, sym, _∙_, subst}
+use mathlib.Core.Bool.{_||_}
+use native.Mathlib.Omega.{arith}
+use borrow.Author.Needs.{needs}
+use lib.Dec.{eqb}
+use lib.ListN.{length, getD, set, length-set}
+use Rattle.pairs.specs.Side.{sideOf}
+use Rattle.weighing.proofs.Lone.{off-bit, bit-room, pow-small, power, put-side}
+use Rattle.weighing.proofs.degrees.put.Statement.{statement}
+use Rattle.weighing.proofs.degrees.put.Tie as tie
+
+element-copy-out-bone : tie.Need-element-copy-out-bone
+element-copy-out-bone c = search needs
+
+bone-requires : tie.Need-bone-requires
+bone-requires c κs = search needs
+
+shl-side : tie.Need-shl-side
+shl-side c = search needs
+
+add-side : tie.Need-add-side
+add-side c = let m = c .before .before .args .b % 8 in omega (arith, c .bone .ensures .1, power m (omega arith), pow-small m (omega arith))
+
+cast-side : tie.Need-cast-side
+cast-side c =
+    let s = c .before .before in
+    let m = s .args .b % 8 in
+    omega (arith, c .bone .ensures, power m (omega arith), bit-room 8 m (c .bone .result) (omega arith) (c .bone .ensures .1) (rw (c .bone .ensures .0) (off-bit (s .args .side .now) (s .args .b) (s .pre .2))))
+
+element-write-side : tie.Need-element-write-side
+element-write-side c = search needs
+
+returns : tie.Need-returns
+returns c =
+    let s = c .before .before in
+    let a = s .args in
+    let e : c .bone .result + 1 * 2 ^ (a .b % 8) % 2 ^ 64 ≡ getD (a .side .now) (a .b / 8) 0 + 2 ^ (a .b % 8) = omega (arith, c .bone .ensures .0, power (a .b % 8) (omega arith)) in
+    subst (λ (v : ℕ). (length (set (a .side .now) (a .b / 8) v) ≡ 16) × ((x : ℕ) → sideOf (set (a .side .now) (a .b / 8) v) x ≡ (sideOf (a .side .now) x || eqb x (a .b)))) (sym e)
+    (length-set (a .side .now) (a .b / 8) _ ∙ s .pre .1, put-side (a .side .now) (a .b) (s .pre .0) (s .pre .1) (s .pre .2))
+
+pub put-spec : {M : Type 1} → statement M
+put-spec =
+    tie.close
+    (tie.spec
+    element-copy-out-bone
+    bone-requires
+    shl-side
+    add-side
+    cast-side
+    element-write-side
+    returns)

@@ -1,0 +1,101 @@
+-- `weighing::degrees::take_out` meets its contract. The invariant: the total is the sum over the bones below c, each at most 2 ^ 32, and each of them has lost
+-- its part. Assumes nothing.
+use Prim.Native.Nat.{ℕ, _≤_, zero-le, _*_, _^_, _-_}
+use mathlib.Core.Path.{_≡_, sym, _∙_, ap, subst}
+use native.Mathlib.Omega.{arith}
+use Rattle.pairs.specs.Table.{held}
+use Rattle.pairs.specs.Side.{heapOf}
+use Rattle.weighing.specs.Degrees.{mate, degree, shareBy, Notes, Lessened}
+use Rattle.weighing.proofs.Noting.{toward-none, toward-next, less-same, less-none, less-at, share-none, share-next}
+use Rattle.weighing.proofs.degrees.take_out.Statement.{statement}
+use Rattle.weighing.proofs.degrees.take_out.Tie as tie
+
+abbrev Inv-loop : tie.InvT-loop
+Inv-loop table names n u degrees₀ total₀ c₀ degrees total c =
+    (c ≤ n) × (total ≡ degree c (held table) (heapOf names) u) × (total ≤ c * 2 ^ 32) × (Notes degrees₀ → Lessened (shareBy c (held table) (mate (heapOf names) u) u) degrees₀ degrees)
+
+abbrev μ-loop : tie.MeasureT-loop
+μ-loop table names n u degrees₀ total₀ c₀ degrees total c = n - c
+
+loop-holds : tie.Need-loop-holds Inv-loop μ-loop
+unfolding degree
+loop-holds c =
+    let w = held (c .args .table .now) in
+    let S = mate (heapOf (c .args .names .now)) (c .args .u) in
+    (zero-le, sym (toward-none w S (c .args .u)), zero-le, λ notes. less-same (share-none w S (c .args .u)) (less-none notes))
+
+with-mate-requires : tie.Need-with-mate-requires Inv-loop μ-loop
+with-mate-requires c κs = omega arith
+
+add-total : tie.Need-add-total Inv-loop μ-loop
+add-total c = omega (arith, c .with-mate .ensures .1)
+
+mul-wrapping-sub-u32 : tie.Need-mul-wrapping-sub-u32 Inv-loop μ-loop
+mul-wrapping-sub-u32 c = omega arith
+
+element-copy-out-wrapping-sub-u32 : tie.Need-element-copy-out-wrapping-sub-u32 Inv-loop μ-loop
+element-copy-out-wrapping-sub-u32 c = omega arith
+
+cast-wrapping-sub-u32 : tie.Need-cast-wrapping-sub-u32 Inv-loop μ-loop
+cast-wrapping-sub-u32 c = omega (arith, c .before .with-mate .ensures .1)
+
+wrapping-sub-u32-requires : tie.Need-wrapping-sub-u32-requires Inv-loop μ-loop
+wrapping-sub-u32-requires c κs = omega arith
+
+mul-degrees : tie.Need-mul-degrees Inv-loop μ-loop
+mul-degrees c = omega arith
+
+element-write-degrees : tie.Need-element-write-degrees Inv-loop μ-loop
+element-write-degrees c = omega arith
+
+add-c : tie.Need-add-c Inv-loop μ-loop
+add-c c = omega arith
+
+loop-less : tie.Need-loop-less Inv-loop μ-loop
+loop-less c = omega arith
+
+loop-again : tie.Need-loop-again Inv-loop μ-loop
+unfolding degree
+loop-again c =
+    let x = c .before .before .with-mate in
+    let l = c .before .before .before .before .loop in
+    let a = c .before .before .before .before .before .args in
+    let w = held (a .table .now) in
+    let S = mate (heapOf (a .names .now)) (a .u) in (
+      omega arith,
+      omega (arith, l .inv .1, x .ensures .0, toward-next (l .c) w S (a .u)),
+      omega (arith, x .ensures .1),
+      λ notes. less-same (share-next w S (a .u) (l .c))
+          (less-at (l .c) _ (c .wrapping-sub-u32 .result) (omega arith) (omega (arith, c .wrapping-sub-u32 .ok)) (omega (arith, x .ensures .0, x .ensures .1, c .wrapping-sub-u32 .ensures)) (l .inv .3 notes)),
+    )
+
+returns : tie.Need-returns Inv-loop μ-loop
+returns c =
+    let a = c .before .before .args in
+    let l = c .before .loop in
+    let w = held (a .table .now) in
+    let h = heapOf (a .names .now) in
+    let done : l .c ≡ a .n = omega arith in (
+      l .inv .1 ∙ ap (λ (m : ℕ). degree m w h (a .u)) done,
+      λ notes. subst (λ (m : ℕ). Lessened (shareBy m w (mate h (a .u)) (a .u)) (a .degrees .now) (l .degrees)) done (l .inv .3 notes),
+    )
+
+pub take-out-spec : {M : Type 1} → statement M
+take-out-spec =
+    tie.close
+    (tie.spec
+    Inv-loop
+    μ-loop
+    loop-holds
+    with-mate-requires
+    add-total
+    mul-wrapping-sub-u32
+    element-copy-out-wrapping-sub-u32
+    cast-wrapping-sub-u32
+    wrapping-sub-u32-requires
+    mul-degrees
+    element-write-degrees
+    add-c
+    loop-less
+    loop-again
+    returns)

@@ -1,0 +1,27 @@
+-- `weighing::degrees::with_mate` meets its contract.
+-- Assumes nothing.
+use mathlib.Core.Path.{sym, _∙_, ap₂}
+use native.Mathlib.Omega.{arith}
+use borrow.Author.Needs.{needs}
+use Rattle.pairs.specs.Table.{held}
+use Rattle.weighing.proofs.degrees.with_mate.Statement.{statement}
+use Rattle.weighing.proofs.degrees.with_mate.Tie as tie
+
+are-mates-requires : tie.Need-are-mates-requires
+are-mates-requires c κs = search needs
+
+tally-between-requires : tie.Need-tally-between-requires
+tally-between-requires c κs = search needs
+
+returns : tie.Need-returns
+returns c =
+    let a = c .before .before .before .args in (
+      simp (sym (c .before .before .are-mates .ensures) ∙ c .before .if1 .taken) (c .tally-between .ensures .0 ∙ ap₂ (held (a .table .now)) (omega arith) (omega arith)),
+      c .tally-between .ensures .1,
+    )
+
+returns-2 : tie.Need-returns-2
+returns-2 c = (simp (sym (c .before .are-mates .ensures) ∙ c .if1 .left), search needs)
+
+pub with-mate-spec : {M : Type 1} → statement M
+with-mate-spec = tie.close (tie.spec are-mates-requires tally-between-requires returns returns-2)

@@ -1,0 +1,67 @@
+-- `weighing::list::gather` meets its contract: after b turns the bones of the pile below b are listed.
+-- Assumes nothing.
+use Prim.Native.Nat.{zero-le, _-_, _≤_}
+use mathlib.Core.Path.{_≡_, subst}
+use native.Mathlib.Omega.{arith}
+use Rattle.meaning.specs.Heap.{pile}
+use Rattle.meaning.proofs.Heaps.{pile-bone}
+use Rattle.pairs.specs.Side.{heapOf}
+use Rattle.weighing.proofs.Gathering.{Gathered, gathered-start, gathered-next, gathered-all}
+use Rattle.weighing.proofs.list.gather.Statement.{statement}
+use Rattle.weighing.proofs.list.gather.Tie as tie
+
+abbrev Inv-loop : tie.InvT-loop
+Inv-loop names n p list₀ m₀ b₀ list m b = (b ≤ n) × Gathered (pile n (heapOf names) p) list m b
+
+abbrev μ-loop : tie.MeasureT-loop
+μ-loop names n p list₀ m₀ b₀ list m b = n - b
+
+loop-holds : tie.Need-loop-holds Inv-loop μ-loop
+loop-holds c = (zero-le, gathered-start _ _ (c .pre .1))
+
+cast-list : tie.Need-cast-list Inv-loop μ-loop
+cast-list c = omega arith
+
+element-write-list : tie.Need-element-write-list Inv-loop μ-loop
+element-write-list c = omega (arith, c .before .loop .inv .1 .most)
+
+is-in-requires : tie.Need-is-in-requires Inv-loop μ-loop
+is-in-requires c κs = omega arith
+
+add-m : tie.Need-add-m Inv-loop μ-loop
+add-m c = omega (arith, c .before .before .loop .inv .1 .most, c .is-in .ensures .1)
+
+add-b : tie.Need-add-b Inv-loop μ-loop
+add-b c = omega arith
+
+loop-less : tie.Need-loop-less Inv-loop μ-loop
+loop-less c = omega arith
+
+loop-again : tie.Need-loop-again Inv-loop μ-loop
+loop-again c =
+    let l = c .before .before .loop in
+    (omega arith, gathered-next (l .inv .1) (omega arith) (c .is-in .result) (c .is-in .ensures .0))
+
+returns : tie.Need-returns Inv-loop μ-loop
+returns c =
+    let l = c .before .loop in
+    let a = c .before .before .args in
+    let all : l .b ≡ a .n = omega arith in
+    let so : Gathered (pile (a .n) (heapOf (a .names .now)) (a .p)) (l .list) (l .m) (a .n) = subst (Gathered _ (l .list) (l .m)) all (l .inv .1) in
+    ((so .once, so .most), gathered-all so (λ x t. pile-bone (a .n) (heapOf (a .names .now)) (a .p) x t))
+
+pub gather-spec : {M : Type 1} → statement M
+gather-spec =
+    tie.close
+    (tie.spec
+    Inv-loop
+    μ-loop
+    loop-holds
+    cast-list
+    element-write-list
+    is-in-requires
+    add-m
+    add-b
+    loop-less
+    loop-again
+    returns)

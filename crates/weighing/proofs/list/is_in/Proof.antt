@@ -1,0 +1,34 @@
+-- `weighing::list::is_in` meets its contract, by whether the bone is in the pile.
+-- Assumes nothing.
+use Prim.Native.Nat.{zero-le}
+use mathlib.Core.Path.{sym, _∙_}
+use native.Mathlib.Nat.{le-refl}
+use borrow.Author.Needs.{needs}
+use lib.Dec.{not-T}
+use Rattle.meaning.specs.Heap.{pile}
+use Rattle.meaning.proofs.Heaps.{pile-intro, pile-name}
+use Rattle.pairs.specs.Side.{heapOf}
+use Rattle.weighing.proofs.Listing.{cond-yes, cond-no}
+use Rattle.weighing.proofs.list.is_in.Statement.{statement}
+use Rattle.weighing.proofs.list.is_in.Tie as tie
+
+element-copy-out-bone : tie.Need-element-copy-out-bone
+element-copy-out-bone c = search needs
+
+bone-requires : tie.Need-bone-requires
+bone-requires c κs = search needs
+
+returns : tie.Need-returns
+unfolding heapOf
+returns c =
+    let a = c .before .before .before .args in
+    (sym (cond-yes (pile (a .n) (heapOf (a .names .now)) (a .p) (a .b)) 1 0 (pile-intro (a .n) (heapOf (a .names .now)) (a .p) (a .b) (c .before .before .before .pre .1) (sym (c .before .bone .ensures .0) ∙ c .if1 .taken))), le-refl _)
+
+returns-2 : tie.Need-returns-2
+unfolding heapOf
+returns-2 c =
+    let a = c .before .before .before .args in
+    (sym (cond-no (pile (a .n) (heapOf (a .names .now)) (a .p) (a .b)) 1 0 (not-T (pile (a .n) (heapOf (a .names .now)) (a .p) (a .b)) (λ t. c .if1 .left (c .before .bone .ensures .0 ∙ pile-name (a .n) (heapOf (a .names .now)) (a .p) (a .b) t)))), zero-le)
+
+pub is-in-spec : {M : Type 1} → statement M
+is-in-spec = tie.close (tie.spec element-copy-out-bone bone-requires returns returns-2)

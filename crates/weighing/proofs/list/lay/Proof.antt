@@ -1,0 +1,123 @@
+-- `weighing::list::lay` meets its contract: after each turn one bone more is laid out.
+-- Assumes nothing.
+use Prim.Native.Nat.{_<_}
+use native.Mathlib.Omega.{arith}
+use Rattle.meaning.proofs.Tests.{eq→eqb, ne→neqb}
+use Rattle.weighing.specs.Lists.{marked}
+use Rattle.weighing.proofs.Laying.{Laying, laying-start, tied-room, laying-tied, laying-head, laying-end}
+use Rattle.weighing.proofs.list.lay.Statement.{statement}
+use Rattle.weighing.proofs.list.lay.Tie as tie
+use Rattle.weighing.proofs.list.lay.Reads as reads
+use Rattle.weighing.proofs.list.lay.Lts as lts
+
+abbrev Inv-loop : tie.InvT-loop
+Inv-loop order joins count heads list₀ into₀ start₀ head₀ group₀ front₀ back₀ i₀ list into start head group front back i = Laying order joins count heads list₀ into₀ start₀ list into start head group front back i
+
+abbrev μ-loop : tie.MeasureT-loop
+μ-loop order joins count heads list₀ into₀ start₀ head₀ group₀ front₀ back₀ i₀ list into start head group front back i = i
+
+sub-head : tie.Need-sub-head Inv-loop μ-loop
+sub-head c = omega arith
+
+element-copy-out-head : tie.Need-element-copy-out-head Inv-loop μ-loop
+element-copy-out-head c = omega (arith, c .pre .0 .1 .few)
+
+element-write-list : tie.Need-element-write-list Inv-loop μ-loop
+element-write-list c = omega arith
+
+sub-i : tie.Need-sub-i Inv-loop μ-loop
+sub-i c = omega arith
+
+loop-holds : tie.Need-loop-holds Inv-loop μ-loop
+loop-holds c =
+    let s = c .before in
+    laying-start (s .pre .0 .1) (s .args .list .now) (s .args .into .now) (s .args .start .now) (s .pre .0 .0) (s .pre .0 .2) (s .pre .1 .0) (s .pre .1 .1) (s .pre .1 .2)
+
+sub-i-2 : tie.Need-sub-i-2 Inv-loop μ-loop
+sub-i-2 c = omega arith
+
+element-copy-out-u : tie.Need-element-copy-out-u Inv-loop μ-loop
+element-copy-out-u c = omega (arith, c .before .loop .inv .last, c .before .before .before .pre .0 .1 .few)
+
+element-copy-out-if1 : tie.Need-element-copy-out-if1 Inv-loop μ-loop
+element-copy-out-if1 c = omega (arith, c .before .before .loop .inv .last, c .before .before .before .before .pre .0 .1 .few)
+
+-- where a bone is tied, there is room behind
+room : (c : lts.Then1 reads.Pre reads.Post Inv-loop μ-loop) → c .before .before .before .before .loop .back < 128
+unfolding marked
+room c =
+    let s = c .before .before .before .before .before .before in
+    let l = c .before .before .before .before .loop in
+    omega (arith, s .pre .0 .1 .few, tied-room (s .pre .0 .1) (omega arith) (l .inv) (eq→eqb _ 1 (c .if1 .taken)))
+
+element-write-list-2 : tie.Need-element-write-list-2 Inv-loop μ-loop
+element-write-list-2 c = room c
+
+element-write-into : tie.Need-element-write-into Inv-loop μ-loop
+element-write-into c = room c
+
+cast-start : tie.Need-cast-start Inv-loop μ-loop
+cast-start c = omega (arith, room c, c .before .before .before .before .loop .inv .before)
+
+element-write-start : tie.Need-element-write-start Inv-loop μ-loop
+element-write-start c = room c
+
+add-back : tie.Need-add-back Inv-loop μ-loop
+add-back c = omega (arith, room c)
+
+loop-less : tie.Need-loop-less Inv-loop μ-loop
+loop-less c = omega arith
+
+loop-again : tie.Need-loop-again Inv-loop μ-loop
+unfolding marked
+loop-again c = laying-tied (c .before .before .before .before .before .before .pre .0 .1) (omega arith) (c .before .before .before .before .loop .inv) (eq→eqb _ 1 (c .if1 .taken))
+
+-- where a bone leads, there is room in front
+room-2 : (c : lts.Else1 reads.Pre reads.Post Inv-loop μ-loop) → c .before .before .before .before .loop .front < 128
+room-2 c =
+    let s = c .before .before .before .before .before .before in
+    let l = c .before .before .before .before .loop in
+    omega (arith, s .pre .0 .1 .few, l .inv .so-far, l .inv .after, l .inv .before)
+
+element-write-list-3 : tie.Need-element-write-list-3 Inv-loop μ-loop
+element-write-list-3 c = room-2 c
+
+add-front : tie.Need-add-front Inv-loop μ-loop
+add-front c = omega (arith, room-2 c)
+
+loop-less-2 : tie.Need-loop-less-2 Inv-loop μ-loop
+loop-less-2 c = omega arith
+
+loop-again-2 : tie.Need-loop-again-2 Inv-loop μ-loop
+unfolding marked
+loop-again-2 c = laying-head (c .before .before .before .before .before .before .pre .0 .1) (omega arith) (c .before .before .before .before .loop .inv) (ne→neqb _ 1 (c .if1 .left))
+
+returns : tie.Need-returns Inv-loop μ-loop
+returns c = laying-end (c .before .before .before .pre .0 .1) (c .before .before .before .args .list .now) _ (omega arith) (c .before .loop .inv)
+
+pub lay-spec : {M : Type 1} → statement M
+lay-spec =
+    tie.close
+    (tie.spec
+    Inv-loop
+    μ-loop
+    sub-head
+    element-copy-out-head
+    element-write-list
+    sub-i
+    loop-holds
+    sub-i-2
+    element-copy-out-u
+    element-copy-out-if1
+    element-write-list-2
+    element-write-into
+    cast-start
+    element-write-start
+    add-back
+    loop-less
+    loop-again
+    element-write-list-3
+    add-front
+    loop-less-2
+    loop-again-2
+    returns)

@@ -1,0 +1,87 @@
+-- `weighing::merge::merge` meets its contract: the bones in the places from j on are merged.
+-- Assumes nothing.
+use Prim.Native.Nat.{_≤_, _-_}
+use mathlib.Core.Path.{_≡_}
+use native.Mathlib.Nat.{le-refl}
+use native.Mathlib.Omega.{arith}
+use lib.ListN.{length}
+use borrow.Author.Needs.{needs}
+use Rattle.weighing.specs.Merge.{Merges}
+use Rattle.weighing.proofs.Merged.{fold-place, merges-more}
+use Rattle.weighing.proofs.merge.merge.Statement.{statement}
+use Rattle.weighing.proofs.merge.merge.Tie as tie
+
+abbrev Inv-loop : tie.InvT-loop
+Inv-loop table₀ list into start heads count j₀ table j =
+    (heads ≤ j) × (j ≤ count) × (length table ≡ 16384) × Merges list into start count table₀ j table
+
+abbrev μ-loop : tie.MeasureT-loop
+μ-loop table₀ list into start heads count j₀ table j = j
+
+loop-holds : tie.Need-loop-holds Inv-loop μ-loop
+loop-holds c = (c .pre .1, le-refl _, c .pre .0, Merges.none)
+
+sub-j : tie.Need-sub-j Inv-loop μ-loop
+sub-j c = omega arith
+
+element-copy-out-bone : tie.Need-element-copy-out-bone Inv-loop μ-loop
+element-copy-out-bone c = omega arith
+
+bone-requires : tie.Need-bone-requires Inv-loop μ-loop
+bone-requires c κs = search needs
+
+element-copy-out-bone-2 : tie.Need-element-copy-out-bone-2 Inv-loop μ-loop
+element-copy-out-bone-2 c = omega arith
+
+bone-requires-2 : tie.Need-bone-requires-2 Inv-loop μ-loop
+bone-requires-2 c κs = search needs
+
+element-copy-out-bone-3 : tie.Need-element-copy-out-bone-3 Inv-loop μ-loop
+element-copy-out-bone-3 c = omega arith
+
+bone-requires-3 : tie.Need-bone-requires-3 Inv-loop μ-loop
+bone-requires-3 c κs = search needs
+
+add-row-requires : tie.Need-add-row-requires Inv-loop μ-loop
+add-row-requires c κs =
+    let at = c .before .before .before .before .before .before .before .before in
+    let pre = at .before .pre in
+    let place = fold-place (at .loop .j - 1) (pre .2) (pre .3) (omega arith) (omega arith) in
+    rw (c .before .before .before .before .bone .ensures .0, c .before .before .bone2 .ensures .0, c .bone3 .ensures .0)
+    (at .loop .inv .2, place .0, place .1, place .2, place .3)
+
+loop-less : tie.Need-loop-less Inv-loop μ-loop
+loop-less c = omega arith
+
+loop-again : tie.Need-loop-again Inv-loop μ-loop
+loop-again c =
+    let at = c .before .before .before .before .before .before .before .before .before in
+    let row =
+    rw
+    (c .before .before .before .before .before .bone .ensures .0, c .before .before .before .bone2 .ensures .0, c .before .bone3 .ensures .0) at (c .add-row .ensures) in
+    (omega arith, omega arith, row .long′, merges-more (omega arith) (at .loop .inv .3) row)
+
+returns : tie.Need-returns Inv-loop μ-loop
+returns c =
+    let at = c .before in
+    let all : at .loop .j ≡ at .before .args .heads = omega arith in
+    rw all at (at .loop .inv .3)
+
+pub merge-spec : {M : Type 1} → statement M
+merge-spec =
+    tie.close
+    (tie.spec
+    Inv-loop
+    μ-loop
+    loop-holds
+    sub-j
+    element-copy-out-bone
+    bone-requires
+    element-copy-out-bone-2
+    bone-requires-2
+    element-copy-out-bone-3
+    bone-requires-3
+    add-row-requires
+    loop-less
+    loop-again
+    returns)

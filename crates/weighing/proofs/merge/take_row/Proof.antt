@@ -1,0 +1,71 @@
+-- `weighing::merge::take_row` meets its contract: after i turns it is done for the bones in the first i places; what is taken out is then what was added.
+-- Assumes nothing.
+use Prim.Native.Nat.{_≤_, _-_, zero-le}
+use mathlib.Core.Path.{_≡_}
+use native.Mathlib.Omega.{arith}
+use borrow.Author.Needs.{needs}
+use Rattle.weighing.specs.Lists.{listed}
+use Rattle.weighing.proofs.Listing.{none-listed}
+use Rattle.weighing.proofs.Rows.{Taking, row-start, row-turn, pair-taken, row-back}
+use Rattle.weighing.proofs.merge.take_row.Statement.{statement}
+use Rattle.weighing.proofs.merge.take_row.Tie as tie
+
+abbrev Inv-loop : tie.InvT-loop
+Inv-loop table₀ list m a b i₀ table i = (i ≤ m) × Taking table₀ table a b (listed list i)
+
+abbrev μ-loop : tie.MeasureT-loop
+μ-loop table₀ list m a b i₀ table i = m - i
+
+loop-holds : tie.Need-loop-holds Inv-loop μ-loop
+loop-holds c = (zero-le, row-start _ _ _ _ (c .pre .0) (none-listed _))
+
+element-copy-out-bone : tie.Need-element-copy-out-bone Inv-loop μ-loop
+element-copy-out-bone c = omega arith
+
+bone-requires : tie.Need-bone-requires Inv-loop μ-loop
+bone-requires c κs = search needs
+
+take-pair-requires : tie.Need-take-pair-requires Inv-loop μ-loop
+take-pair-requires c κs =
+    let at = c .before .before .before .before in
+    omega (arith, at .before .pre .4 .low (at .loop .i) (omega arith))
+
+add-i : tie.Need-add-i Inv-loop μ-loop
+add-i c = omega arith
+
+loop-less : tie.Need-loop-less Inv-loop μ-loop
+loop-less c = omega arith
+
+loop-again : tie.Need-loop-again Inv-loop μ-loop
+loop-again c =
+    let at = c .before .before .before .before .before in
+    let pre = at .before .pre in
+    let row = at .loop .inv .1 in
+    let read = c .before .bone .ensures .0 in (
+      omega arith,
+      row-turn (pre .4) (omega arith) (pre .1) (pre .2) (pre .3) row
+          (rw read at (c .take-pair .ensures .0))
+          (λ n. pair-taken _ _ _ _ (row .long′) (pre .1) (pre .4 .low _ (omega arith)) ((rw read at (c .take-pair .ensures .1)) n)),
+    )
+
+returns : tie.Need-returns Inv-loop μ-loop
+returns c =
+    let at = c .before in
+    let all : at .loop .i ≡ at .before .args .m = omega arith in
+    let row = rw all at (at .loop .inv .1) in
+    (row .long′, λ t put. row-back (at .before .pre .2) (at .before .pre .3) put row)
+
+pub take-row-spec : {M : Type 1} → statement M
+take-row-spec =
+    tie.close
+    (tie.spec
+    Inv-loop
+    μ-loop
+    loop-holds
+    element-copy-out-bone
+    bone-requires
+    take-pair-requires
+    add-i
+    loop-less
+    loop-again
+    returns)

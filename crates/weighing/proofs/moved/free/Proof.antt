@@ -1,0 +1,61 @@
+-- `weighing::moved::free` meets its contract: after i turns the bones in the first i places bear a mark.
+-- Assumes nothing.
+use Prim.Native.Nat.{ℕ, zero-le, _-_, _≤_}
+use mathlib.Core.Path.{_≡_, refl, _∙_, ap}
+use native.Mathlib.Omega.{arith}
+use borrow.Author.Needs.{needs}
+use lib.ListN.{length, length-set}
+use Rattle.weighing.specs.Lists.{listed, marked}
+use Rattle.weighing.proofs.Spreading.{free-start, free-next}
+use Rattle.weighing.proofs.moved.free.Statement.{statement}
+use Rattle.weighing.proofs.moved.free.Tie as tie
+
+abbrev Inv-loop : tie.InvT-loop
+Inv-loop order left marks₀ i₀ marks i = (i ≤ left) × (length marks ≡ 128) × ((b : ℕ) → marked marks b ≡ listed order i b)
+
+abbrev μ-loop : tie.MeasureT-loop
+μ-loop order left marks₀ i₀ marks i = left - i
+
+loop-holds : tie.Need-loop-holds Inv-loop μ-loop
+loop-holds c = (zero-le, refl, free-start (c .args .order .now) 128)
+
+element-copy-out-bone : tie.Need-element-copy-out-bone Inv-loop μ-loop
+element-copy-out-bone c = omega (arith, c .before .before .pre .few)
+
+bone-requires : tie.Need-bone-requires Inv-loop μ-loop
+bone-requires c κs = search needs
+
+array-write-marks : tie.Need-array-write-marks Inv-loop μ-loop
+array-write-marks c = omega (arith, c .before .before .before .before .pre .low (c .before .before .before .loop .i) (c .before .before .loop-test .taken), c .bone .ensures .0)
+
+add-i : tie.Need-add-i Inv-loop μ-loop
+add-i c = omega arith
+
+loop-less : tie.Need-loop-less Inv-loop μ-loop
+loop-less c = omega arith
+
+loop-again : tie.Need-loop-again Inv-loop μ-loop
+loop-again c =
+    let l = c .before .before .before .loop in
+    (omega arith, length-set (l .marks) (c .bone .result) 1 ∙ l .inv .1, free-next _ (l .marks) (l .i) (c .bone .result) (l .inv .1) (array-write-marks c) (c .bone .ensures .0) (l .inv .2))
+
+returns : tie.Need-returns Inv-loop μ-loop
+returns c =
+    let l = c .before .loop in
+    let done : l .i ≡ c .before .before .args .left = omega arith in
+    (l .inv .1, λ b. l .inv .2 b ∙ ap (λ (k : ℕ). listed (c .before .before .args .order .now) k b) done)
+
+pub free-spec : {M : Type 1} → statement M
+free-spec =
+    tie.close
+    (tie.spec
+    Inv-loop
+    μ-loop
+    loop-holds
+    element-copy-out-bone
+    bone-requires
+    array-write-marks
+    add-i
+    loop-less
+    loop-again
+    returns)

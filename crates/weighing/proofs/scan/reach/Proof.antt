@@ -1,0 +1,51 @@
+-- `weighing::scan::reach` meets its contract: after i turns the bones in the first i places are reached.
+-- Assumes nothing.
+use Prim.Native.Nat.{ℕ, zero-le, _-_, _≤_, _<_}
+use mathlib.Core.Path.{_≡_, subst}
+use native.Mathlib.Omega.{arith}
+use lib.ListN.{getD}
+use Rattle.pairs.specs.Table.{held}
+use Rattle.weighing.specs.Scan.{Reached}
+use Rattle.weighing.proofs.Scanning.{reached-start, reached-fresh, reached-next}
+use Rattle.weighing.proofs.scan.reach.Statement.{statement}
+use Rattle.weighing.proofs.scan.reach.Tie as tie
+
+abbrev Inv-loop : tie.InvT-loop
+Inv-loop table order left u attach₀ got₀ i₀ attach got i = (i ≤ left) × Reached (held table) order u i attach₀ attach (got .place) (got .top) (got .out)
+
+abbrev μ-loop : tie.MeasureT-loop
+μ-loop table order left u attach₀ got₀ i₀ attach got i = left - i
+
+loop-holds : tie.Need-loop-holds Inv-loop μ-loop
+loop-holds c = (zero-le, reached-start _ _ _ _ (c .pre .2))
+
+look-requires : tie.Need-look-requires Inv-loop μ-loop
+look-requires c κs =
+    let s = c .before .before .before in
+    let l = c .before .before .loop in
+    let here : l .i < s .args .left = omega arith in (
+      (s .pre .0, omega (arith, s .pre .1 .few), s .pre .1 .low (l .i) here, l .inv .1 .long),
+      (omega (arith, reached-fresh (l .inv .1) (s .pre .1) here, s .pre .3 (getD (s .args .order .now) (l .i) 0)), omega (arith, l .inv .1 .most, s .pre .1 .few)),
+    )
+
+add-i : tie.Need-add-i Inv-loop μ-loop
+add-i c = omega arith
+
+loop-less : tie.Need-loop-less Inv-loop μ-loop
+loop-less c = omega arith
+
+loop-again : tie.Need-loop-again Inv-loop μ-loop
+loop-again c =
+    let s = c .before .before .before .before in
+    let l = c .before .before .before .loop in
+    (omega arith, reached-next (l .inv .1) (s .pre .1) (omega arith) (s .pre .3) (c .look .ensures))
+
+returns : tie.Need-returns Inv-loop μ-loop
+returns c =
+    let l = c .before .loop in
+    let a = c .before .before .args in
+    let all : l .i ≡ a .left = omega arith in
+    subst (λ (m : ℕ). Reached (held (a .table .now)) (a .order .now) (a .u) m (a .attach .now) (l .attach) (l .got .place) (l .got .top) (l .got .out)) all (l .inv .1)
+
+pub reach-spec : {M : Type 1} → statement M
+reach-spec = tie.close (tie.spec Inv-loop μ-loop loop-holds look-requires add-i loop-less loop-again returns)
