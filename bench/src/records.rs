@@ -128,7 +128,7 @@ fn median(mut values: Vec<f64>) -> f64 {
 pub fn print(rows: &[Row]) -> Result<(), String> {
     let mut room = Room { labels: [0; 128], space: [0; 21 * 127] };
     println!("\ngrouping over link records beside grouping over bytes");
-    println!("{:<20} {:>4} {:>6} {:>11} {:>11} {:>7} {:>7}", "family", "n", "links", "bytes ns", "records ns", "ratio", "worst");
+    println!("{:<28} {:>4} {:>6} {:>11} {:>11} {:>7} {:>7}", "family", "n", "links", "bytes ns", "records ns", "ratio", "worst");
     let mut all = Vec::new();
     for family in families(rows) {
         for size in [16, 128] {
@@ -146,7 +146,7 @@ pub fn print(rows: &[Row]) -> Result<(), String> {
 fn print_line(family: &str, line: &[Both]) {
     let Some(first) = line.first() else { return };
     println!(
-        "{:<20} {:>4} {:>6} {:>11.0} {:>11.0} {:>7.2} {:>7.2}",
+        "{:<28} {:>4} {:>6} {:>11.0} {:>11.0} {:>7.2} {:>7.2}",
         family,
         first.row.list.n,
         first.row.list.count(),
