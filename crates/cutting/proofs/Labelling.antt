@@ -1,6 +1,6 @@
 -- Grouping from the empty record on, with room for any labels and any cuts: nothing is refused, and the bones' labels are written.
 -- Assumes nothing.
-use Prim.Native.Nat.{ℕ, _*_, _-_, _≤_, _<_, zero-le, min}
+use Prim.Native.Nat.{ℕ, _*_, _≤_, _<_, zero-le, min}
 use mathlib.Core.Path.{_≡_, refl, _∙_, ap}
 use mathlib.Core.Bool.{true}
 use mathlib.Core.List.{List, [], _∷_, _++_}

@@ -1,7 +1,7 @@
 -- A bone b merged into a: the tallies of b are added to those of a. By the new table the other bones weigh what all of them weighed by the old one, for
 -- every split that keeps a, b and the bones of a's block on one side; and all tallies together come to no more than before.
 -- Assumes nothing.
-use Prim.Native.Nat.{ℕ, _+_, _≤_, _<_, _^_, _%_}
+use Prim.Native.Nat.{ℕ, _+_, _≤_, _<_, _^_}
 use mathlib.Core.Path.{_≡_, refl, sym, _∙_, ap, ap₂, subst}
 use mathlib.Core.Logic.{⊎-elim}
 use mathlib.Core.Bool.{Bool, true, false, cond, not, _&&_, _||_, Bool·beq}
@@ -11,9 +11,9 @@ use native.Mathlib.Omega.{arith}
 use lib.Dec.{T, eqb, eqb→eq, T-not, not-T}
 use Rattle.meaning.specs.Count.{Bones, sum}
 use Rattle.meaning.specs.Tally.{Tally, total, weight}
-use Rattle.meaning.proofs.Tests.{_⇒_, imp, mp, taut, so, _⊃_, decide, left-of, right-of, or-left, or-right, same-test, eq→eqb, neqb→ne, ne→neqb, is-true, is-false}
+use Rattle.meaning.proofs.Tests.{_⇒_, imp, taut, so, _⊃_, decide, left-of, right-of, or-left, or-right, eq→eqb, neqb→ne, ne→neqb, is-true, is-false}
 use Rattle.meaning.proofs.Sums.{sum-ext, sum-add, sum-swap}
-use Rattle.meaning.proofs.Totals.{Pairs, parts, Symmetric, total-mono, total-parts, total-same, total-turn}
+use Rattle.meaning.proofs.Totals.{Pairs, parts, Symmetric, total-parts, total-turn}
 use Rattle.pairs.specs.Table.{held}
 use Rattle.pairs.proofs.TableHeld.{held-symmetric}
 use Rattle.weighing.specs.Merge.{touched, RowAdded}

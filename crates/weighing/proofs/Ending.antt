@@ -1,29 +1,27 @@
 -- From 128 bones to the n bones of a heap: what a search of one pile shows of it. A sum over 128 bones of which only those below n count is one over n.
 -- Assumes nothing.
-use Prim.Native.Nat.{ℕ, zero, suc, _+_, _≤_, _<_, _^_}
-use mathlib.Core.Path.{_≡_, refl, sym, _∙_, ap, ap₂, subst}
+use Prim.Native.Nat.{ℕ, zero, suc, _≤_, _<_, _^_}
+use mathlib.Core.Path.{_≡_, refl, sym, _∙_, ap, subst}
 use mathlib.Core.Logic.{⊎-elim}
-use mathlib.Core.Bool.{Bool, true, false, cond, not, _&&_, _||_, Bool·beq}
+use mathlib.Core.Bool.{Bool, true, false, cond, not, _&&_, Bool·beq}
 use mathlib.Core.List.{List}
-use native.Mathlib.Nat.{le-refl, eq-or-lt-of-le, le-of-suc-le-suc, not-suc-le-zero, lt-of-lt-of-le}
+use native.Mathlib.Nat.{eq-or-lt-of-le, le-of-suc-le-suc, lt-of-lt-of-le}
 use native.Mathlib.Omega.{arith}
-use lib.Dec.{T, eqb, not-T}
-use lib.ListN.{length}
+use lib.Dec.{T, eqb}
 use Rattle.meaning.specs.Count.{Bones, sum, some}
 use Rattle.meaning.specs.Tally.{Tally, total, weight}
 use Rattle.meaning.specs.Firm.{splits, firm}
-use Rattle.meaning.specs.Heap.{Heap, Cut, Lawful, pile, stands}
-use Rattle.meaning.proofs.Tests.{_⇒_, taut, so, _⊃_, imp, decide, both, left-of, right-of, same-test, is-true, is-false}
+use Rattle.meaning.specs.Heap.{Heap, Lawful, pile, stands}
+use Rattle.meaning.proofs.Tests.{_⇒_, taut, so, _⊃_, decide, left-of, right-of}
 use Rattle.meaning.proofs.Sets.{some-intro, some-same}
 use Rattle.meaning.proofs.Sums.{sum-ext, sum-zero}
-use Rattle.meaning.proofs.Totals.{Pairs, Symmetric, total-mono}
-use Rattle.meaning.proofs.Firm.{other, weight-same, weight-other, weight-inside, splits-intro, splits-elim, splits-same, firm-intro, firm-elim}
+use Rattle.meaning.proofs.Totals.{Pairs, total-mono}
+use Rattle.meaning.proofs.Firm.{other, weight-same, weight-other, splits-intro, splits-elim, splits-same, firm-intro, firm-elim}
 use Rattle.meaning.proofs.Heaps.{pile-bone}
 use Rattle.pairs.specs.Table.{held}
 use Rattle.pairs.specs.Side.{sideOf}
 use Rattle.pairs.proofs.TableHeld.{held-symmetric}
 use Rattle.weighing.specs.declared.search.Split.{Split}
-use Rattle.weighing.specs.Lists.{listed}
 use Rattle.weighing.specs.Search.{cutOf, Small}
 use Rattle.weighing.proofs.Contracting.{bulk}
 use Rattle.weighing.proofs.Searching.{Agree, Light, weight-on}

@@ -7,7 +7,7 @@ use mathlib.Core.Bool.{Bool, true, false, not}
 use mathlib.Core.List.{List}
 use native.Mathlib.Omega.{arith}
 use lib.Dec.{T, eqb, eqb→eq}
-use lib.ListN.{length, getD, replicate, length-replicate}
+use lib.ListN.{length, replicate, length-replicate}
 use Rattle.meaning.specs.Heap.{Heap, pile, stands, Lawful}
 use Rattle.meaning.proofs.Tests.{decide, neqb→ne}
 use Rattle.meaning.specs.Firm.{firm}

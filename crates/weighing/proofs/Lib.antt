@@ -3,7 +3,7 @@ pub mod Listing
 pub mod Gathering
 pub mod Laying
 pub mod Spreading
-pub mod Bits
+pub mod SideBits
 pub mod Rows
 pub mod Merged
 pub mod Taking

@@ -1,11 +1,9 @@
 -- Laws of the cut that parts one bone from its pile: what it weighs, that it is lawful, and its side as bytes.
 -- Assumes nothing.
-use Prim.Native.Nat.{ℕ, zero, suc, _+_, _*_, _/_, _%_, _^_, _<_}
+use Prim.Native.Nat.{ℕ, _+_, _<_}
 use mathlib.Core.Path.{_≡_, refl, sym, _∙_, ap, ap₂, subst}
 use mathlib.Core.Logic.{⊎-elim}
-use mathlib.Core.Bool.{Bool, true, false, cond, not, _&&_, _||_}
-use mathlib.Core.List.{List}
-use native.Mathlib.Nat.{not-suc-le-zero, mod-eq-of-lt, pow-succ', div-div-eq-div-mul, zero-div}
+use mathlib.Core.Bool.{Bool, true, false, cond, not, _&&_, _||_, Bool·beq}
 use native.Mathlib.Numerals.{add-one}
 use native.Mathlib.Omega.{arith}
 use lib.Dec.{T, eqb, ltb, eqb→eq, eqb-refl, ltb→lt, lt→ltb, not-T}
@@ -14,7 +12,7 @@ use lib.Seq.{getD-set-same, getD-set-other}
 use Rattle.meaning.specs.Count.{Bones, sum, some}
 use Rattle.meaning.specs.Tally.{Tally, weight}
 use Rattle.meaning.specs.Heap.{Heap, Cut, Lawful, pile, stands}
-use Rattle.meaning.proofs.Tests.{taut, so, _⊃_, both, left-of, right-of, either, or-left, or-right, decide, holds, is-true, is-false, same-test, eq→eqb, neqb→ne, ne→neqb}
+use Rattle.meaning.proofs.Tests.{taut, so, _⊃_, both, left-of, right-of, decide, is-true, is-false, same-test, eq→eqb, neqb→ne, ne→neqb}
 use Rattle.meaning.proofs.Sums.{sum-ext, sum-one}
 use Rattle.meaning.proofs.Totals.{Symmetric}
 use Rattle.meaning.proofs.Sets.{some-intro, some-elim, some-same}
@@ -23,7 +21,8 @@ use Rattle.meaning.proofs.Heaps.{pile-intro}
 use Rattle.pairs.specs.Side.{sideOf}
 use Rattle.pairs.specs.Weigh.{offSide, rowOf}
 use Rattle.pairs.proofs.Sides.{pile-below, rows, weight-rows}
-use Rattle.weighing.proofs.Noting.{noughts, ltb-skip}
+use Rattle.weighing.proofs.Noting.{noughts}
+use Rattle.weighing.specs.Lists.{marked}
 use Rattle.weighing.specs.Degrees.{toward, mate, degree, joined, moves, Loosed}
 use Rattle.weighing.specs.Search.{cutOf}
 use Rattle.weighing.specs.declared.search.Split.{Split}
@@ -150,113 +149,26 @@ pub some-next : (i : ℕ) (X : Bones) → X i ≡ false → some i X ≡ false �
 unfolding some
 some-next i X e none = ap (λ (m : ℕ). some m X) (add-one i) ∙ ap₂ _||_ none e
 
--- one bone more is on the side, or is not
-module _ (X : Bones) (i x : ℕ) where
-  pub side-next : X i ≡ true → ((ltb x i && X x) || eqb x i) ≡ (ltb x (i + 1) && X x)
-  side-next e =
-      same-test _ _
-      (λ t. ⊎-elim
-      (λ s. both (ltb x (i + 1)) (X x) (lt→ltb x (i + 1) (omega (arith, ltb→lt x i (left-of (ltb x i) (X x) s)))) (right-of (ltb x i) (X x) s))
-      (λ s. both (ltb x (i + 1)) (X x) (lt→ltb x (i + 1) (omega (arith, eqb→eq x i s))) (holds (ap X (eqb→eq x i s) ∙ e)))
-      (either (ltb x i && X x) (eqb x i) t))
-      (λ t. ⊎-elim
-      (λ s. or-right (ltb x i && X x) (eqb x i) s)
-      (λ s. or-left (ltb x i && X x) (eqb x i) (both (ltb x i) (X x) (holds (ltb-skip x i (neqb→ne x i s) ∙ is-true (ltb x (i + 1)) (left-of (ltb x (i + 1)) (X x) t))) (right-of (ltb x (i + 1)) (X x) t)))
-      (decide (eqb x i)))
+-- a run of noughts with one mark: the bones of the pile of u without it are u's mates
+one-mark : (u b : ℕ) (s : ℕ) → u < length {A = ℕ} (replicate s 0) → marked (set (replicate s 0) u 1) b ≡ eqb b u
+unfolding marked
+one-mark u b s low = ⊎-elim here there (decide (eqb b u))
+  where
+    here : T (eqb b u) → eqb (getD (set (replicate s 0) u 1) b 0) 1 ≡ eqb b u
+    here t = ap (λ (x : ℕ). eqb (getD (set (replicate s 0) u 1) x 0) 1) (eqb→eq b u t) ∙ ap (λ (x : ℕ). eqb x 1) (getD-set-same (replicate s 0) u 1 0 low) ∙ sym (is-true (eqb b u) t)
 
-  pub side-skip : X i ≡ false → (ltb x i && X x) ≡ (ltb x (i + 1) && X x)
-  side-skip e = ⊎-elim here there (decide (eqb x i))
-    where
-      none : (t : Bool) {s : Bool} → s ≡ false → (t && s) ≡ false
-      none true q = q
-      none false q = refl
+    there : T (not (eqb b u)) → eqb (getD (set (replicate s 0) u 1) b 0) 1 ≡ eqb b u
+    there t = ap (λ (x : ℕ). eqb x 1) (getD-set-other (replicate s 0) u b 1 0 (neqb→ne b u t) ∙ noughts s b) ∙ sym (is-false (eqb b u) t)
 
-      here : T (eqb x i) → (ltb x i && X x) ≡ (ltb x (i + 1) && X x)
-      here t = let off = ap X (eqb→eq x i t) ∙ e in none (ltb x i) off ∙ sym (none (ltb x (i + 1)) off)
-
-      there : T (not (eqb x i)) → (ltb x i && X x) ≡ (ltb x (i + 1) && X x)
-      there t = ap (λ (s : Bool). s && X x) (ltb-skip x i (neqb→ne x i t))
-
--- ---- bits
-
--- no bone is on a side of noughts
-pub side-none : (s b : ℕ) → sideOf (replicate s 0) b ≡ false
-unfolding sideOf
-side-none s b = ap (λ (x : ℕ). eqb (x / 2 ^ (b % 8) % 2) 1) (noughts s (b / 8)) ∙ ap (λ (x : ℕ). eqb (x % 2) 1) (zero-div (2 ^ (b % 8)))
-
-eqb-suc : (j m : ℕ) → eqb (suc j) (suc m) ≡ eqb j m
-eqb-suc j m = same-test _ _ (λ t. eq→eqb j m (omega (arith, eqb→eq (suc j) (suc m) t))) (λ t. eq→eqb (suc j) (suc m) (ap suc (eqb→eq j m t)))
-
-half : (x j : ℕ) → x / 2 ^ suc j ≡ x / 2 / 2 ^ j
-half x j = ap (λ (p : ℕ). x / p) (pow-succ' 2 j) ∙ sym (div-div-eq-div-mul x 2 (2 ^ j))
-
--- the bit worth 2 ^ m was nought and is set
-set-bit : (m j x : ℕ) → x / 2 ^ m % 2 ≡ 0 → (x + 2 ^ m) / 2 ^ j % 2 ≡ cond (eqb j m) 1 (x / 2 ^ j % 2)
-set-bit zero zero x e = omega arith
-set-bit zero (suc j) x e =
-    let same : (x + 2 ^ 0) / 2 ≡ x / 2 = omega arith in
-    ap (λ (y : ℕ). y % 2) (half (x + 2 ^ 0) j ∙ ap (λ (y : ℕ). y / 2 ^ j) same ∙ sym (half x j))
-    ∙ sym (ap (λ (t : Bool). cond t 1 (x / 2 ^ suc j % 2)) (is-false (eqb (suc j) 0) (ne→neqb (suc j) 0 (λ q. omega arith))))
-set-bit (suc m) zero x e =
-    omega (arith, pow-succ' 2 m, ap (λ (t : Bool). cond t 1 (x / 2 ^ 0 % 2)) (is-false (eqb 0 (suc m)) (ne→neqb 0 (suc m) (λ q. omega arith))))
-set-bit (suc m) (suc j) x e =
-    let halved : (x + 2 ^ suc m) / 2 ≡ x / 2 + 2 ^ m = omega (arith, pow-succ' 2 m) in
-    ap (λ (y : ℕ). y % 2) (half (x + 2 ^ suc m) j ∙ ap (λ (y : ℕ). y / 2 ^ j) halved)
-    ∙ set-bit m j (x / 2) (ap (λ (y : ℕ). y % 2) (sym (half x m)) ∙ e)
-    ∙ ap₂ (λ (t : Bool) (y : ℕ). cond t 1 (y % 2)) (sym (eqb-suc j m)) (sym (half x j))
-
--- and there is room for it
-pub bit-room : (n m x : ℕ) → m < n → x < 2 ^ n → x / 2 ^ m % 2 ≡ 0 → x + 2 ^ m < 2 ^ n
-bit-room zero m x h l e = absurd (not-suc-le-zero h)
-bit-room (suc n) zero x h l e = omega (arith, pow-succ' 2 n)
-bit-room (suc n) (suc m) x h l e =
-    let rest = bit-room n m (x / 2) (omega arith) (omega (arith, pow-succ' 2 n)) (ap (λ (y : ℕ). y % 2) (sym (half x m)) ∙ e) in
-    omega (arith, rest, pow-succ' 2 n, pow-succ' 2 m)
-
--- a bit as the code makes it
-pub pow-small : (m : ℕ) → m < 8 → 2 ^ m < 256
-pow-small m l = omega (arith, bit-room 8 m 0 l (omega arith) (ap (λ (x : ℕ). x % 2) (zero-div (2 ^ m))))
-
-pub power : (m : ℕ) → m < 8 → 1 * 2 ^ m % 2 ^ 64 ≡ 2 ^ m
-power m l = mod-eq-of-lt (omega (arith, pow-small m l)) ∙ omega arith
-
--- a bone that is not on the side: its bit
-pub off-bit : (side : List ℕ) (b : ℕ) → T (not (sideOf side b)) → getD side (b / 8) 0 / 2 ^ (b % 8) % 2 ≡ 0
-unfolding sideOf
-off-bit side b t = omega (arith, neqb→ne (getD side (b / 8) 0 / 2 ^ (b % 8) % 2) 1 t)
-
-module _ (side : List ℕ) (b : ℕ) (low : b < 128) (long : length side ≡ 16) (off : T (not (sideOf side b))) where
-  abbrev after : List ℕ
-  after = set side (b / 8) (getD side (b / 8) 0 + 2 ^ (b % 8))
-
-  pub put-side : (c : ℕ) → sideOf after c ≡ (sideOf side c || eqb c b)
-  unfolding sideOf
-  put-side c = ⊎-elim here there (decide (eqb (c / 8) (b / 8)))
-    where
-      or-cond : (t : Bool) (y : ℕ) → eqb (cond t 1 y) 1 ≡ (eqb y 1 || t)
-      or-cond true y = sym (or-true (eqb y 1))
-        where
-          or-true : (s : Bool) → (s || true) ≡ true
-          or-true true = refl
-          or-true false = refl
-      or-cond false y = sym (or-false (eqb y 1))
-        where
-          or-false : (s : Bool) → (s || false) ≡ s
-          or-false true = refl
-          or-false false = refl
-
-      here : T (eqb (c / 8) (b / 8)) → eqb (getD after (c / 8) 0 / 2 ^ (c % 8) % 2) 1 ≡ (eqb (getD side (c / 8) 0 / 2 ^ (c % 8) % 2) 1 || eqb c b)
-      here t =
-          let at = eqb→eq (c / 8) (b / 8) t in
-          rw at
-          (ap (λ (x : ℕ). eqb (x / 2 ^ (c % 8) % 2) 1) (getD-set-same side (b / 8) _ 0 (omega arith))
-          ∙ ap (λ (x : ℕ). eqb x 1) (set-bit (b % 8) (c % 8) (getD side (b / 8) 0) (off-bit side b off))
-          ∙ or-cond (eqb (c % 8) (b % 8)) (getD side (b / 8) 0 / 2 ^ (c % 8) % 2)
-          ∙ ap (λ (t : Bool). eqb (getD side (b / 8) 0 / 2 ^ (c % 8) % 2) 1 || t)
-          (same-test _ _ (λ t. eq→eqb c b (omega (arith, eqb→eq (c % 8) (b % 8) t))) (λ t. eq→eqb (c % 8) (b % 8) (ap (λ (x : ℕ). x % 8) (eqb→eq c b t)))))
-
-      there : T (not (eqb (c / 8) (b / 8))) → eqb (getD after (c / 8) 0 / 2 ^ (c % 8) % 2) 1 ≡ (eqb (getD side (c / 8) 0 / 2 ^ (c % 8) % 2) 1 || eqb c b)
-      there t =
-          ap (λ (x : ℕ). eqb (x / 2 ^ (c % 8) % 2) 1) (getD-set-other side (b / 8) (c / 8) _ 0 (neqb→ne _ _ t))
-          ∙ or-cond false (getD side (c / 8) 0 / 2 ^ (c % 8) % 2)
-          ∙ ap (λ (t : Bool). eqb (getD side (c / 8) 0 / 2 ^ (c % 8) % 2) 1 || t) (sym (is-false (eqb c b) (ne→neqb c b (λ e. neqb→ne _ _ t (ap (λ (x : ℕ). x / 8) e)))))
+pub others-side : (n : ℕ) (h : Heap) (u b s : ℕ) → u < length {A = ℕ} (replicate s 0) → h u ≡ u → (pile n h u b && not (Bool·beq (marked (set (replicate s 0) u 1) b) (marked (set (replicate s 0) u 1) u))) ≡ (ltb b n && mate h u b)
+unfolding pile mate
+others-side n h u b s low named =
+    ap₂ (λ (x y : Bool). (ltb b n && eqb (h b) u) && not (Bool·beq x y)) (one-mark u b s low) (one-mark u u s low ∙ is-true (eqb u u) (eq→eqb u u refl))
+    ∙ tests (ltb b n) (eqb (h b) u) (eqb b u)
+    ∙ ap (λ (x : ℕ). ltb b n && (eqb (h b) x && not (eqb b u))) (sym named)
+  where
+    tests : (l e q : Bool) → ((l && e) && not (Bool·beq q true)) ≡ (l && (e && not q))
+    tests true true true = refl
+    tests true true false = refl
+    tests true false q = refl
+    tests false e q = refl

@@ -1,7 +1,7 @@
 -- What holds in a pass: bones reached from the one taken last, and what is known whenever the next one is to be taken.
 -- Assumes nothing.
-use Prim.Native.Nat.{ℕ, zero, suc, _+_, _-_, _*_, _≤_, _<_, _^_, zero-le}
-use mathlib.Core.Path.{_≡_, refl, sym, _∙_, ap, ap₂, subst}
+use Prim.Native.Nat.{ℕ, zero, suc, _+_, _-_, _*_, _≤_, _<_, _^_}
+use mathlib.Core.Path.{_≡_, refl, sym, _∙_, ap, subst}
 use mathlib.Core.Logic.{⊎-elim}
 use mathlib.Core.Bool.{Bool, true, false, cond, not, _&&_, _||_}
 use mathlib.Core.List.{List}
@@ -14,7 +14,7 @@ use lib.ListN.{length, getD, set, length-set, replicate, length-replicate}
 use lib.Seq.{getD-set-same, getD-set-other}
 use Rattle.meaning.specs.Count.{Bones, sum}
 use Rattle.meaning.specs.Tally.{Tally, weight}
-use Rattle.meaning.proofs.Tests.{decide, eq→eqb, neqb→ne, ne→neqb, left-of, right-of, same-test, is-false, is-true}
+use Rattle.meaning.proofs.Tests.{decide, eq→eqb, neqb→ne, ne→neqb, left-of, is-true}
 use Rattle.meaning.proofs.Sums.{sum-next, sum-ext}
 use Rattle.meaning.proofs.Sets.{last-or-below}
 use Rattle.meaning.proofs.Totals.{Symmetric}
@@ -22,7 +22,7 @@ use Rattle.meaning.proofs.Firm.{weight-same}
 use Rattle.weighing.specs.Lists.{listed, Once, swapped, marked}
 use Rattle.weighing.specs.Scan.{Tied, near, Looked, Reached, Passed}
 use Rattle.weighing.proofs.Taking.{tie, taken, tie-none, tie-taken, Bounded, bounded-none, bounded-taken, light-ties, out-weight}
-use Rattle.weighing.proofs.Listing.{cond-yes, cond-no, listed-at, listed-by, listed-place, listed-none, listed-next, listed-low, listed-less, listed-not, once-less, listed-sum, swapped-long, swapped-last, swapped-above, swapped-once, swapped-listed, swapped-free}
+use Rattle.weighing.proofs.Listing.{cond-yes, cond-no, listed-at, listed-place, listed-none, listed-next, listed-less, listed-not, once-less, listed-sum, swapped-last, swapped-above, swapped-once, swapped-listed, swapped-free}
 
 -- ---- bones reached one by one
 

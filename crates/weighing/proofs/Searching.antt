@@ -4,26 +4,26 @@
 use Prim.Native.Nat.{ℕ, zero, suc, _+_, _-_, _≤_, _<_, _^_}
 use mathlib.Core.Path.{_≡_, refl, sym, _∙_, ap, ap₂, subst}
 use mathlib.Core.Logic.{⊎-elim}
-use mathlib.Core.Bool.{Bool, true, false, cond, not, _&&_, _||_, Bool·beq}
+use mathlib.Core.Bool.{Bool, true, false, not, _&&_, _||_}
 use mathlib.Core.List.{List}
-use native.Mathlib.Nat.{le-refl, le-trans, le-of-eq, not-suc-le-zero}
+use native.Mathlib.Nat.{le-refl, not-suc-le-zero}
 use native.Mathlib.Numerals.{add-one}
 use native.Mathlib.Omega.{arith}
-use lib.Dec.{T, eqb, leb, ltb, eqb→eq, leb→le, nleb→lt, ltb→lt, nltb→le, T-not, not-T}
-use lib.ListN.{length, getD}
+use lib.Dec.{T, eqb, leb, ltb, eqb→eq, leb→le, nleb→lt, ltb→lt, nltb→le, T-not}
+use lib.ListN.{getD}
 use Rattle.meaning.specs.Count.{Bones}
 use Rattle.meaning.specs.Tally.{Tally, weight}
 use Rattle.meaning.specs.Firm.{splits, firm}
-use Rattle.meaning.proofs.Tests.{decide, same-test, eq→eqb, neqb→ne, or-left, or-right, either, taut, so, _⊃_, _⇒_}
+use Rattle.meaning.proofs.Tests.{decide, same-test, eq→eqb, so}
 use Rattle.meaning.proofs.Sets.{last-or-below}
 use Rattle.meaning.proofs.Totals.{total-ext}
-use Rattle.meaning.proofs.Firm.{weight-same, weight-inside, splits-intro, splits-elim, splits-same, firm-intro}
+use Rattle.meaning.proofs.Firm.{weight-same, weight-inside, splits-intro, splits-elim, firm-intro}
 use Rattle.pairs.specs.Table.{held}
 use Rattle.weighing.specs.Lists.{listed, Once, marked}
 use Rattle.weighing.specs.Scan.{Tied, Passed}
 use Rattle.weighing.specs.Merge.{touched, RowAdded, Merges, none, more, Folded, unmarked, Laid}
 use Rattle.weighing.specs.Moved.{Spread}
-use Rattle.weighing.proofs.Listing.{listed-at, listed-by, listed-place, listed-next, listed-low, listed-less, listed-ext, listed-not, once-less, unmarked-most, unmarked-next, unmarked-head, unmarked-less}
+use Rattle.weighing.proofs.Listing.{listed-at, listed-by, listed-place, listed-next, listed-low, listed-less, listed-not, once-less, unmarked-most, unmarked-next, unmarked-head, unmarked-less}
 use Rattle.weighing.proofs.Merged.{merges-low}
 use Rattle.weighing.proofs.Contracting.{bulk, Fresh, with-bone, merged-weight, merged-fits}
 

@@ -10,7 +10,7 @@ use native.Mathlib.Omega.{arith}
 use lib.Dec.{T, eqb, eqb→eq}
 use Rattle.meaning.specs.Count.{Bones, sum}
 use Rattle.meaning.specs.Tally.{Tally, total, weight}
-use Rattle.meaning.proofs.Tests.{_⇒_, imp, taut, so, _⊃_, decide, same-test, eq→eqb, is-true, is-false}
+use Rattle.meaning.proofs.Tests.{_⇒_, imp, taut, so, _⊃_, decide, same-test}
 use Rattle.meaning.proofs.Sums.{sum-ext, sum-add, sum-one, sum-swap, sum-zero}
 use Rattle.meaning.proofs.Totals.{Pairs, parts, Symmetric, total-mono, total-parts, total-ext, total-turn}
 use Rattle.meaning.proofs.Firm.{other, weight-other, weight-within}

@@ -1,11 +1,10 @@
 -- Bones in the first places of a run of 128 bytes, and marks for each of 128.
-use Prim.Native.Nat.{ℕ, _+_, _-_, _≤_, _<_}
+use Prim.Native.Nat.{ℕ, _≤_, _<_}
 use mathlib.Core.Path.{_≡_}
-use mathlib.Core.Bool.{not}
 use mathlib.Core.List.{List}
-use lib.Dec.{T, eqb}
+use lib.Dec.{eqb}
 use lib.ListN.{length, getD, set}
-use Rattle.meaning.specs.Count.{Bones, count, some}
+use Rattle.meaning.specs.Count.{Bones, some}
 
 -- bone b stands in one of the first m places
 unfoldable pub listed : List ℕ → ℕ → Bones

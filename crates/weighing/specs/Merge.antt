@@ -1,6 +1,6 @@
 -- Blocks contracted in the pair table, and taken back out. The bones of a pile stand in a list; those in its first places lead a block, and
 -- each of the others was merged into one that stands before it.
-use Prim.Native.Nat.{ℕ, _+_, _-_, _%_, _^_, _≤_, _<_}
+use Prim.Native.Nat.{ℕ, _+_, _%_, _^_, _≤_, _<_}
 use mathlib.Core.Path.{_≡_}
 use mathlib.Core.Bool.{Bool, not, _&&_, _||_}
 use mathlib.Core.List.{List}

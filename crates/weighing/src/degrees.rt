@@ -1,5 +1,7 @@
 // Degrees: each bone's tally with the other bones of its pile. They are noted once and kept from cut to cut, and tell where to look first.
 // The notes are a hint: the cut that parts a bone from its pile sums up its true tally again.
+use crate::moved::put;
+use crate::moved::side_of;
 use crate::search::Split;
 use pairs::numbers::bone;
 use pairs::numbers::wide;
@@ -216,36 +218,15 @@ fn take_out(
     total
 }
 
-// A bone that is not on the side comes to it.
-fn put(side: &mut [u8; 16], b: usize)
-    requires { ⌜ (b < 128) × (length (now side) ≡ 16) × T (not (sideOf (now side) b)) ⌝ }
-    ensures { λ _. ⌜ (length (now (side .exit)) ≡ 16) × ((c : ℕ) → sideOf (now (side .exit)) c ≡ (sideOf (now (side .entry)) c || eqb c b)) ⌝ }
-{
-    let byte = bone(side[b / 8]);
-    side[b / 8] = (byte + (1 << (b % 8))) as u8;
-}
-
-// The other bones of u's pile, as a side.
-fn others(names: &[u8; 128], n: usize, u: usize) -> [u8; 16]
-    requires { ⌜ (n ≤ 128) × (u < 128) ⌝ }
-    ensures { λ r. ⌜ ((b : ℕ) → sideOf r b ≡ (ltb b n && mate (heapOf (now (names .entry))) u b)) ⌝ }
-{
-    let mut side = [0u8; 16];
-    for b in 0..n {
-        if are_mates(names, u, b) {
-            put(&mut side, b);
-        }
-    }
-    side
-}
-
 // The side that moves out where bone u is parted from its pile. The bone that names the pile stays.
 fn lone_side(names: &[u8; 128], n: usize, u: usize) -> [u8; 16]
-    requires { ⌜ (n ≤ 128) × (u < 128) ⌝ }
+    requires { ⌜ (n ≤ 128) × (u < n) ⌝ }
     ensures { λ r. ⌜ ((b : ℕ) → sideOf r b ≡ moves n (heapOf (now (names .entry))) u b) ⌝ }
 {
     if bone(names[u]) == u {
-        others(names, n, u)
+        let mut marks = [0u8; 128];
+        marks[u] = 1;
+        side_of(names, n, u, &marks)
     } else {
         let mut side = [0u8; 16];
         put(&mut side, u);

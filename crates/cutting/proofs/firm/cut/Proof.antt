@@ -1,6 +1,6 @@
 -- `cutting::firm::cut` meets its contract: the entry states the split, so that the run goes on by it. Assumes nothing.
 use Prim.Native.Nat.{ℕ, _+_}
-use mathlib.Core.Path.{_≡_, sym, subst}
+use mathlib.Core.Path.{sym, subst}
 use mathlib.Core.List.{List}
 use native.Mathlib.Omega.{arith}
 use Rattle.meaning.specs.Heap.{Cut, Lawful, parted}

@@ -1,7 +1,7 @@
 -- `cutting::firm::finish` meets its contract. The invariant: the table is as it came, the cuts so far are a lawful run that leaves the names,
 -- and the piles below `from` are firm. Each cut leaves less room for cuts. Assumes nothing.
-use Prim.Native.Nat.{ℕ, _+_, _-_, _<_}
-use mathlib.Core.Path.{_≡_, refl, sym, _∙_, ap, subst}
+use Prim.Native.Nat.{ℕ, _-_, _<_}
+use mathlib.Core.Path.{_≡_, refl, _∙_, ap, subst}
 use mathlib.Core.List.{List}
 use native.Mathlib.Omega.{arith}
 use lib.ListN.{length}

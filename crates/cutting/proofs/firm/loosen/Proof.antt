@@ -1,7 +1,6 @@
 -- `cutting::firm::loosen` meets its contract: a bone that is cut off is a lawful cut, and leaves the piles firm that were. Assumes nothing.
 use Prim.Native.Nat.{ℕ, _<_, min}
-use mathlib.Core.Path.{_≡_, sym, subst}
-use mathlib.Core.Bool.{Bool, true}
+use mathlib.Core.Path.{_≡_, subst}
 use native.Mathlib.Nat.{le-refl}
 use native.Mathlib.Omega.{arith}
 use borrow.Author.Tests.{not-false}

@@ -2,8 +2,7 @@
 -- Assumes nothing.
 use Prim.Native.Nat.{ℕ, _<_}
 use mathlib.Core.Path.{_≡_, refl, sym, _∙_, ap, ap₂, subst}
-use mathlib.Core.Bool.{Bool, true, false, _&&_}
-use mathlib.Core.List.{List}
+use mathlib.Core.Bool.{Bool, true, _&&_}
 use native.Mathlib.Omega.{arith}
 use borrow.Author.Tests.{lt-ltb, le-ltb}
 use borrow.Author.Needs.{needs}
@@ -20,10 +19,13 @@ use Rattle.weighing.proofs.degrees.lone.Statement.{statement}
 use Rattle.weighing.proofs.degrees.lone.Tie as tie
 
 -- a bone whose pile has another one is a bone below n
-u-low : (c : tie.Then1) → c .before .before .before .args .u < 128
-u-low c =
+u-below : (c : tie.Then1) → c .before .before .before .args .u < c .before .before .at-most-128 .result
+u-below c =
     let a = c .before .before .before .args in
-    omega (arith, c .before .before .at-most-128 .ensures .1, joined-low (c .before .before .at-most-128 .result) (heapOf (a .names .now)) (a .u) (holds (sym (c .before .has-mates .ensures) ∙ c .if1 .taken)))
+    joined-low (c .before .before .at-most-128 .result) (heapOf (a .names .now)) (a .u) (holds (sym (c .before .has-mates .ensures) ∙ c .if1 .taken))
+
+u-low : (c : tie.Then1) → c .before .before .before .args .u < 128
+u-low c = omega (arith, c .before .before .at-most-128 .ensures .1, u-below c)
 
 at-most-128-requires : tie.Need-at-most-128-requires
 at-most-128-requires c κs = search needs
@@ -38,7 +40,7 @@ element-copy-out-t14 : tie.Need-element-copy-out-t14
 element-copy-out-t14 c = u-low (c .before .before .before)
 
 lone-side-requires : tie.Need-lone-side-requires
-lone-side-requires c κs = (omega arith, u-low (c .before .before .before .before))
+lone-side-requires c κs = (omega arith, u-below (c .before .before .before .before))
 
 -- the degrees that were taken out
 taken : (c : tie.After-take-out) → let a = c .before .before .before .before .before .args in Notes (a .degrees .now) → Lessened (without (c .before .before .before .before .at-most-128 .result) (held (a .table .now)) (heapOf (a .names .now)) (a .u)) (a .degrees .now) (c .take-out .last .1 .1 .1 .1 .0)

@@ -7,7 +7,8 @@ use borrow.Author.Needs.{needs}
 use lib.Dec.{eqb}
 use Rattle.meaning.proofs.Tests.{fails}
 use Rattle.pairs.specs.Side.{heapOf}
-use Rattle.weighing.proofs.Lone.{side-none, moves-named, moves-lone}
+use Rattle.weighing.proofs.SideBits.{side-none}
+use Rattle.weighing.proofs.Lone.{moves-named, moves-lone, others-side}
 use Rattle.weighing.proofs.degrees.lone_side.Statement.{statement}
 use Rattle.weighing.proofs.degrees.lone_side.Tie as tie
 
@@ -17,8 +18,11 @@ element-copy-out-bone c = search needs
 bone-requires : tie.Need-bone-requires
 bone-requires c κs = search needs
 
-others-requires : tie.Need-others-requires
-others-requires c κs = search needs
+array-write-marks : tie.Need-array-write-marks
+array-write-marks c = search needs
+
+side-of-requires : tie.Need-side-of-requires
+side-of-requires c κs = search needs
 
 put-requires : tie.Need-put-requires
 put-requires c κs = (omega arith, refl, fails (side-none 16 (c .before .before .before .before .args .u)))
@@ -26,8 +30,10 @@ put-requires c κs = (omega arith, refl, fails (side-none 16 (c .before .before 
 returns : tie.Need-returns
 unfolding heapOf
 returns c =
-    let a = c .before .before .before .before .args in
-    λ b. c .others .ensures b ∙ sym (moves-named (a .n) (heapOf (a .names .now)) (a .u) b (sym (c .before .before .bone .ensures .0) ∙ c .before .if1 .taken))
+    let s = c .before .before .before .before .before in
+    let a = s .args in
+    let named = sym (c .before .before .before .bone .ensures .0) ∙ c .before .before .if1 .taken in
+    λ b. c .side-of .ensures b ∙ others-side (a .n) (heapOf (a .names .now)) (a .u) b 128 (omega (arith, s .pre)) named ∙ sym (moves-named (a .n) (heapOf (a .names .now)) (a .u) b named)
 
 returns-2 : tie.Need-returns-2
 unfolding heapOf
@@ -40,4 +46,4 @@ returns-2 c =
 pub lone-side-spec : {M : Type 1} → statement M
 lone-side-spec =
     tie.close
-    (tie.spec element-copy-out-bone bone-requires others-requires put-requires returns returns-2)
+    (tie.spec element-copy-out-bone bone-requires array-write-marks side-of-requires put-requires returns returns-2)

@@ -1,8 +1,7 @@
 -- `weighing::scan::scan` meets its contract. The loop's invariant is `Scan`, what is known whenever a bone is to be taken.
 -- Assumes nothing.
-use Prim.Native.Nat.{ℕ, _-_, _≤_, _<_}
+use Prim.Native.Nat.{ℕ, _-_, _<_}
 use mathlib.Core.Path.{_≡_, refl, sym, subst}
-use mathlib.Core.List.{List}
 use native.Mathlib.Omega.{arith}
 use lib.ListN.{getD}
 use Rattle.pairs.specs.Table.{held}
@@ -10,7 +9,7 @@ use Rattle.pairs.proofs.TableHeld.{held-symmetric}
 use Rattle.weighing.specs.Lists.{listed}
 use Rattle.weighing.specs.Scan.{Reached}
 use Rattle.weighing.proofs.Listing.{once-less}
-use Rattle.weighing.proofs.Scanning.{Scan, scan-start, taken-once, u-low, passed-done, passed-light, scan-next}
+use Rattle.weighing.proofs.Scanning.{Scan, scan-start, taken-once, passed-done, passed-light, scan-next}
 use Rattle.weighing.proofs.scan.scan.Statement.{statement}
 use Rattle.weighing.proofs.scan.scan.Tie as tie
 

@@ -1,20 +1,20 @@
 -- `weighing::search::search` meets its contract: piles before p are firm, and the pile p is cut into blocks that no light split parts.
 -- Assumes nothing.
-use Prim.Native.Nat.{ℕ, _+_, _-_, _≤_, _<_, min}
-use mathlib.Core.Path.{_≡_, refl, sym, _∙_, ap, subst}
+use Prim.Native.Nat.{ℕ, _+_, _-_, _≤_, min}
+use mathlib.Core.Path.{_≡_, refl, sym, _∙_, subst}
 use mathlib.Core.Bool.{Bool, true, false}
 use mathlib.Core.List.{List}
 use native.Mathlib.Omega.{arith}
-use lib.ListN.{getD, length}
+use lib.ListN.{getD}
 use Rattle.meaning.specs.Heap.{pile}
 use Rattle.pairs.specs.Table.{held}
 use Rattle.pairs.specs.Side.{heapOf}
 use Rattle.weighing.specs.declared.search.Split.{Split}
 use Rattle.weighing.specs.Scan.{Passed}
-use Rattle.weighing.specs.Merge.{Laid, Merges, unmarked}
-use Rattle.weighing.specs.Search.{Searched, Small, FirmPiles}
+use Rattle.weighing.specs.Merge.{Laid, unmarked}
+use Rattle.weighing.specs.Search.{Searched, Small}
 use Rattle.weighing.proofs.Listing.{once-less, listed-less}
-use Rattle.weighing.proofs.Searching.{Agree, heads-few, heads-fewer}
+use Rattle.weighing.proofs.Searching.{heads-few, heads-fewer}
 use Rattle.weighing.proofs.Finding.{Passing, Piling, piling-start, piling-skip, some-bones, passing-start, piling-next, searched, searched-none, passing-next, merges-long}
 use Rattle.weighing.proofs.search.search.Statement.{statement}
 use Rattle.weighing.proofs.search.search.Tie as tie

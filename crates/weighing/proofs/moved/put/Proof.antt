@@ -1,4 +1,4 @@
--- `weighing::degrees::put` meets its contract: the bit was nought, so the byte has room for it.
+-- `weighing::moved::put` meets its contract: the bit was nought, so the byte has room for it.
 -- Assumes nothing.
 use Prim.Native.Nat.{ℕ, _+_, _*_, _/_, _%_, _^_}
 use mathlib.Core.Path.{_≡_, sym, _∙_, subst}
@@ -8,9 +8,9 @@ use borrow.Author.Needs.{needs}
 use lib.Dec.{eqb}
 use lib.ListN.{length, getD, set, length-set}
 use Rattle.pairs.specs.Side.{sideOf}
-use Rattle.weighing.proofs.Lone.{off-bit, bit-room, pow-small, power, put-side}
-use Rattle.weighing.proofs.degrees.put.Statement.{statement}
-use Rattle.weighing.proofs.degrees.put.Tie as tie
+use Rattle.weighing.proofs.SideBits.{off-bit, bit-room, pow-small, power, put-side}
+use Rattle.weighing.proofs.moved.put.Statement.{statement}
+use Rattle.weighing.proofs.moved.put.Tie as tie
 
 element-copy-out-bone : tie.Need-element-copy-out-bone
 element-copy-out-bone c = search needs

@@ -1,0 +1,45 @@
+-- `weighing::moved::moves_out` meets its contract: by whether the bone is of the pile. Assumes nothing.
+use mathlib.Core.Path.{sym, _∙_, ap}
+use mathlib.Core.Bool.{Bool, not, _&&_, Bool·beq}
+use borrow.Author.Tests.{eq-eqb, ne-eqb}
+use Rattle.pairs.specs.Side.{heapOf}
+use Rattle.weighing.specs.Lists.{marked}
+use borrow.Author.Needs.{needs}
+use Rattle.weighing.proofs.moved.moves_out.Statement.{statement}
+use Rattle.weighing.proofs.moved.moves_out.Tie as tie
+
+element-copy-out-bone : tie.Need-element-copy-out-bone
+element-copy-out-bone c = search needs
+
+bone-requires : tie.Need-bone-requires
+bone-requires c κs = search needs
+
+returns : tie.Need-returns
+unfolding heapOf
+returns c =
+    let a = c .before .before .before .args in
+    sym (ap (λ (t : Bool). t && not (Bool·beq (marked (a .marks .now) (a .b)) (marked (a .marks .now) (a .p)))) (ne-eqb (heapOf (a .names .now) (a .b)) (a .p) (λ e. c .if1 .taken (c .before .bone .ensures .0 ∙ e))))
+
+element-copy-out-mark : tie.Need-element-copy-out-mark
+element-copy-out-mark c = search needs
+
+element-copy-out-home : tie.Need-element-copy-out-home
+element-copy-out-home c = search needs
+
+returns-2 : tie.Need-returns-2
+unfolding heapOf marked
+returns-2 c =
+    let e = c .before .before in
+    let a = e .before .before .before .args in
+    sym (ap (λ (t : Bool). t && not (Bool·beq (marked (a .marks .now) (a .b)) (marked (a .marks .now) (a .p)))) (eq-eqb (heapOf (a .names .now) (a .b)) (a .p) (sym (e .before .bone .ensures .0) ∙ e .if1 .left)))
+
+pub moves-out-spec : {M : Type 1} → statement M
+moves-out-spec =
+    tie.close
+    (tie.spec
+    element-copy-out-bone
+    bone-requires
+    returns
+    element-copy-out-mark
+    element-copy-out-home
+    returns-2)
