@@ -1,5 +1,6 @@
 //! A process that answers questions over its standard input and output, as served/serve.h says. A question on which it ends (a crash,
-//! or a call that never comes back) is found by asking each of its batch again, alone.
+//! or a call that never comes back) is found by asking each of its batch again, alone. Where it then ends on none of them, an earlier
+//! question is to blame for how it met a later one: the batch still counts as failed.
 
 use std::io::{Read, Write};
 use std::path::PathBuf;
@@ -28,9 +29,19 @@ impl Server {
             let (some, later) = rest.split_at(batch(rest));
             match self.ask_together(some) {
                 Ok(all) => answers.extend(all.into_iter().map(Ok)),
-                Err(_) => answers.extend(some.iter().map(|question| self.ask_one(question))),
+                Err(ended) => answers.extend(self.ask_apart(some, &ended)),
             }
             rest = later;
+        }
+        answers
+    }
+
+    /// Each question of a batch on which the process ended, asked alone. At least one of the answers says how it ended.
+    fn ask_apart(&mut self, questions: &[Vec<u8>], ended: &str) -> Vec<Result<Vec<u8>, String>> {
+        let mut answers: Vec<_> = questions.iter().map(|question| self.ask_one(question)).collect();
+        if answers.iter().all(Result::is_ok) {
+            let last = answers.len() - 1;
+            answers[last] = Err(format!("{ended} in a batch of {} of which it answers each alone", questions.len()));
         }
         answers
     }
