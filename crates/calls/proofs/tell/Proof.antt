@@ -5,15 +5,6 @@ use borrow.Author.Needs.{needs}
 use Rattle.calls.proofs.tell.Statement.{statement}
 use Rattle.calls.proofs.tell.Tie as tie
 
-enum-known-answer : tie.Need-enum-known-answer
-enum-known-answer c = search needs
-
-enum-known-answer-2 : tie.Need-enum-known-answer-2
-enum-known-answer-2 c = search needs
-
-one-if-requires : tie.Need-one-if-requires
-one-if-requires c κs = search needs
-
 returns : tie.Need-returns
 unfolding told
 returns c = sym (ap told (c .before .answer .given .1))
@@ -26,4 +17,4 @@ returns-2 c =
 
 pub tell-spec : {M : Type 1} → statement M
 tell-spec =
-    tie.close (tie.spec enum-known-answer enum-known-answer-2 one-if-requires returns returns-2)
+    tie.close (tie.spec (λ c. search needs) (λ c. search needs) (λ c κs. search needs) returns returns-2)

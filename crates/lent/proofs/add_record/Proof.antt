@@ -9,9 +9,6 @@ use Rattle.pairs.specs.Table.{added}
 use Rattle.lent.proofs.add_record.Statement.{statement}
 use Rattle.lent.proofs.add_record.Tie as tie
 
-add-within-requires : tie.Need-add-within-requires
-add-within-requires c κs = search needs
-
 returns : tie.Need-returns
 returns c =
     let a = c .before .before .args in
@@ -21,4 +18,4 @@ returns c =
     ∙ ap₂ (λ (x y : ℕ). added (now (a .table)) (record { a = x; b = y; tally = a .l .tally })) one two
 
 pub add-record-spec : {M : Type 1} → statement M
-add-record-spec = tie.close (tie.spec add-within-requires returns)
+add-record-spec = tie.close (tie.spec (λ c κs. search needs) returns)

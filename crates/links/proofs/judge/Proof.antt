@@ -8,19 +8,10 @@ use Rattle.links.proofs.LinksBytes.{length-linksOf}
 use Rattle.links.proofs.judge.Statement.{statement}
 use Rattle.links.proofs.judge.Tie as tie
 
-judge-counts-requires : tie.Need-judge-counts-requires
-judge-counts-requires c κs = search needs
-
-enum-told : tie.Need-enum-told
-enum-told c = search needs
-
 judge-links-requires : tie.Need-judge-links-requires
 judge-links-requires c κs =
     let a = c .before .before .before .before .args in
     counts-accepted (a .n) (a .k) _ _ (sym (c .before .before .judge-counts .ensures) ∙ c .enum-told .given .1) .few-links
-
-enum-known-number : tie.Need-enum-known-number
-enum-known-number c = search needs
 
 -- the rows speak of the number of links, and the code of a quarter of the bytes
 returns : tie.Need-returns
@@ -44,9 +35,9 @@ pub judge-spec : {M : Type 1} → statement M
 judge-spec =
     tie.close
     (tie.spec
-    judge-counts-requires
-    enum-told
+    (λ c κs. search needs)
+    (λ c. search needs)
     judge-links-requires
-    enum-known-number
+    (λ c. search needs)
     returns
     returns-2)

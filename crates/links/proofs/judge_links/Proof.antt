@@ -20,24 +20,6 @@ Inv-loop n links count i₀ i =
 abbrev μ-loop : tie.MeasureT-loop
 μ-loop n links count i₀ i = length links / 4 - i
 
-loop-holds : tie.Need-loop-holds Inv-loop μ-loop
-loop-holds c = (zero-le, refl)
-
-link-at-requires : tie.Need-link-at-requires Inv-loop μ-loop
-link-at-requires c κs = search needs
-
-cast-judge-link : tie.Need-cast-judge-link Inv-loop μ-loop
-cast-judge-link c = omega arith
-
-judge-link-requires : tie.Need-judge-link-requires Inv-loop μ-loop
-judge-link-requires c κs = search needs
-
-enum-told : tie.Need-enum-told Inv-loop μ-loop
-enum-told c = search needs
-
-enum-known-number : tie.Need-enum-known-number Inv-loop μ-loop
-enum-known-number c = search needs
-
 returns : tie.Need-returns Inv-loop μ-loop
 returns c =
     let a = c .before .before .before .before .before .before .before .before .args in
@@ -46,12 +28,6 @@ returns c =
     (head .inv .1
     ∙ links-stop (a .n) (head .i) _ _ _ _ (linksOf-read (now (a .links)) (head .i) _ (omega arith) (c .before .before .before .before .link-at .ensures))
     (sym (c .before .before .before .judge-link .ensures) ∙ c .before .number .given .1))
-
-add-i : tie.Need-add-i Inv-loop μ-loop
-add-i c = omega arith
-
-loop-less : tie.Need-loop-less Inv-loop μ-loop
-loop-less c = omega arith
 
 loop-again : tie.Need-loop-again Inv-loop μ-loop
 loop-again c =
@@ -75,14 +51,14 @@ judge-links-spec =
     (tie.spec
     Inv-loop
     μ-loop
-    loop-holds
-    link-at-requires
-    cast-judge-link
-    judge-link-requires
-    enum-told
-    enum-known-number
+    (λ c. (zero-le, refl))
+    (λ c κs. search needs)
+    (λ c. omega arith)
+    (λ c κs. search needs)
+    (λ c. search needs)
+    (λ c. search needs)
     returns
-    add-i
-    loop-less
+    (λ c. omega arith)
+    (λ c. omega arith)
     loop-again
     returns-2)

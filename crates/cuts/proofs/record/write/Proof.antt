@@ -14,26 +14,11 @@ use Rattle.cuts.proofs.record.write.Tie as tie
 returns : tie.Need-returns
 returns c = sym (put-none (c .before .before .args .space .now) (c .before .before .args .i) _ (c .if1 .taken))
 
-mul-at : tie.Need-mul-at
-mul-at c = search needs
-
-put-head-requires : tie.Need-put-head-requires
-put-head-requires c κs = search needs
-
-slice-aggregate-copy : tie.Need-slice-aggregate-copy
-slice-aggregate-copy c = search needs
-
-add-copy : tie.Need-add-copy
-add-copy c = search needs
-
 copy-requires : tie.Need-copy-requires
 copy-requires c κs =
     let s = c .before .before .before .before .before .before .before .before .before in
     let whole : length (s .args .entry .side) ≡ 16 = sym (length-map (s .args .entry .side) _) ∙ s .good .1 .1 .0 .1 .1 .1 .1 .0 .1 .0 .1 in
     omega (arith, whole)
-
-same-length : tie.Need-same-length
-same-length c = search needs
 
 returns-2 : tie.Need-returns-2
 unfolding entryBytes
@@ -56,10 +41,10 @@ write-spec =
     tie.close
     (tie.spec
     returns
-    mul-at
-    put-head-requires
-    slice-aggregate-copy
-    add-copy
+    (λ c. search needs)
+    (λ c κs. search needs)
+    (λ c. search needs)
+    (λ c. search needs)
     copy-requires
-    same-length
+    (λ c. search needs)
     returns-2)

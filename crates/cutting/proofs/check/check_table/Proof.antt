@@ -16,15 +16,6 @@ use borrow.Author.Needs.{needs}
 use Rattle.cutting.proofs.check.check_table.Statement.{statement}
 use Rattle.cutting.proofs.check.check_table.Tie as tie
 
-judge-counts-requires : tie.Need-judge-counts-requires
-judge-counts-requires c κs = search needs
-
-enum-told : tie.Need-enum-told
-enum-told c = search needs
-
-enum-known-number : tie.Need-enum-known-number
-enum-known-number c = search needs
-
 returns : tie.Need-returns
 returns c = checked-refused _ _ _ _ _ _ _ _ (first-refused _ _ _ _ (sym (c .before .before .before .judge-counts .ensures) ∙ c .before .number .given .1))
 
@@ -41,24 +32,12 @@ passes c rows = first-accepted _ rows (accepted c)
 returns-2 : tie.Need-returns-2
 returns-2 c = checked-refused _ _ _ _ _ _ 7 0 (passes (c .before) _ ∙ label-short _ _ _ (c .if1 .taken))
 
-judge-record-requires : tie.Need-judge-record-requires
-judge-record-requires c κs = search needs
-
-enum-told-2 : tie.Need-enum-told-2
-enum-told-2 c = search needs
-
 tell-piles-requires : tie.Need-tell-piles-requires
 tell-piles-requires c κs = (counted (c .before .before .before .before .before .before .before .before .before) .few-bones, c .before .before .before .before .before .before .before .before .before .before .before .before .before .before .pre)
-
-enum-known-number-2 : tie.Need-enum-known-number-2
-enum-known-number-2 c = search needs
 
 -- the record's rows, tried among no more than 128 bones
 judged : (c : tie.After-judge-record) → let a = c .before .before .before .before .before .before .before .before .before .args in c .judge-record .result ≡ first (recordRows (a .n) (held (a .table .now)) (a .k) (a .entries .now))
 judged c = few-rows _ _ _ _ (counted (c .before .before .before .before) .few-bones) (c .judge-record .ensures .0)
-
-same-length : tie.Need-same-length
-same-length c = search needs
 
 returns-3 : tie.Need-returns-3
 returns-3 c =
@@ -76,15 +55,15 @@ pub check-table-spec : {M : Type 1} → statement M
 check-table-spec =
     tie.close
     (tie.spec
-    judge-counts-requires
-    enum-told
-    enum-known-number
+    (λ c κs. search needs)
+    (λ c. search needs)
+    (λ c. search needs)
     returns
     returns-2
-    judge-record-requires
-    enum-told-2
+    (λ c κs. search needs)
+    (λ c. search needs)
     tell-piles-requires
-    enum-known-number-2
-    same-length
+    (λ c. search needs)
+    (λ c. search needs)
     returns-3
     returns-4)

@@ -11,12 +11,6 @@ use borrow.Author.Needs.{needs}
 use Rattle.cutting.proofs.check.checking.Statement.{statement}
 use Rattle.cutting.proofs.check.checking.Tie as tie
 
-fill-requires : tie.Need-fill-requires
-fill-requires c κs = search needs
-
-enum-told : tie.Need-enum-told
-enum-told c = search needs
-
 short : (c : tie.After-fill) → Short (linksOf (c .before .before .before .before .before .args .links .now))
 short c = linksOf-short _ (λ i. omega (arith, c .before .before .before .before .shared-slice-known .given i))
 
@@ -25,12 +19,6 @@ check-table-requires c κs =
     let a = c .before .before .before .before .before .before .before .before .before .args in
     let f = c .before .before .before .before in
     filled-small (a .n) (a .k) _ _ _ (f .fill .ensures .0) (c .before .before .enum-told .given .1) _ (f .fill .ensures .1) (short f)
-
-enum-known-number : tie.Need-enum-known-number
-enum-known-number c = search needs
-
-same-length : tie.Need-same-length
-same-length c = search needs
 
 returns : tie.Need-returns
 returns c =
@@ -50,10 +38,10 @@ pub checking-spec : {M : Type 1} → statement M
 checking-spec =
     tie.close
     (tie.spec
-    fill-requires
-    enum-told
+    (λ c κs. search needs)
+    (λ c. search needs)
     check-table-requires
-    enum-known-number
-    same-length
+    (λ c. search needs)
+    (λ c. search needs)
     returns
     returns-2)

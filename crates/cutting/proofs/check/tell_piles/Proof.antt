@@ -12,18 +12,6 @@ use borrow.Author.Needs.{needs}
 use Rattle.cutting.proofs.check.tell_piles.Statement.{statement}
 use Rattle.cutting.proofs.check.tell_piles.Tie as tie
 
-search-requires : tie.Need-search-requires
-search-requires c κs = c .before .before .pre .1 .long
-
-write-names-requires : tie.Need-write-names-requires
-write-names-requires c κs = search needs
-
-count-piles-requires : tie.Need-count-piles-requires
-count-piles-requires c κs = search needs
-
-same-length : tie.Need-same-length
-same-length c = search needs
-
 returns : tie.Need-returns
 returns c =
     let s = c .before .before .before .before .before .before .before .before in
@@ -37,4 +25,4 @@ returns c =
 pub tell-piles-spec : {M : Type 1} → statement M
 tell-piles-spec =
     tie.close
-    (tie.spec search-requires write-names-requires count-piles-requires same-length returns)
+    (tie.spec (λ c κs. c .before .before .pre .1 .long) (λ c κs. search needs) (λ c κs. search needs) (λ c. search needs) returns)

@@ -7,12 +7,9 @@ use borrow.Author.Needs.{needs}
 use Rattle.cutting.proofs.firm.entry_of.Statement.{statement}
 use Rattle.cutting.proofs.firm.entry_of.Tie as tie
 
-cast-t3 : tie.Need-cast-t3
-cast-t3 c = search needs
-
 returns : tie.Need-returns
 unfolding cutOf splitCut
 returns c = (refl, sym (length-map (c .before .before .args .split .side) _) ∙ c .before .before .good .0 .1 .1 .1 .1 .1 .0 .1 .0 .1)
 
 pub entry-of-spec : {M : Type 1} → statement M
-entry-of-spec = tie.close (tie.spec cast-t3 returns)
+entry-of-spec = tie.close (tie.spec (λ c. search needs) returns)

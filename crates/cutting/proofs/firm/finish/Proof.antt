@@ -72,12 +72,6 @@ firm-then c = firm-found (settled (settled-of (c .before))) (cutOf (c .before .s
 abbrev cut-of : tie.After-leave Inv-loop μ-loop → tie.Else2 Inv-loop μ-loop
 cut-of c = c .before .before .before .before .before .before .before .before .before
 
-degrees-requires : tie.Need-degrees-requires Inv-loop μ-loop
-degrees-requires c κs = tt
-
-loop-holds : tie.Need-loop-holds Inv-loop μ-loop
-loop-holds c = (refl, going-start (c .before .before .before .before .pre .1))
-
 peel-requires : tie.Need-peel-requires Inv-loop μ-loop
 peel-requires c κs =
     let a = c .before .before .before .before in
@@ -89,24 +83,15 @@ loop-less c =
     let q = c .before in
     omega (arith, q .before .before .peel .ensures .more, c .if1 .taken, going-few (peeled q))
 
-loop-again : tie.Need-loop-again Inv-loop μ-loop
-loop-again c = (head-of (c .before) .loop .inv .0, peeled (c .before))
-
 search-requires : tie.Need-search-requires Inv-loop μ-loop
 search-requires c κs =
     let a = head-of (c .before .before .before) in
     ap length (a .loop .inv .0) ∙ start-of a .pre .0 .long
 
-same-length : tie.Need-same-length Inv-loop μ-loop
-same-length c = settled (settled-of (c .before)) .long
-
 returns : tie.Need-returns Inv-loop μ-loop
 returns c =
     let e = settled-of (c .before) in
     going-end (settled e) (searched-none _ _ _ _ _ _ _ (searched (c .before)) (not-true (c .before .search .result .light) (c .if2 .taken)))
-
-cast-from : tie.Need-cast-from Inv-loop μ-loop
-cast-from c = omega arith
 
 cut-requires : tie.Need-cut-requires Inv-loop μ-loop
 cut-requires c κs =
@@ -114,16 +99,10 @@ cut-requires c κs =
     let s = start-of (head-of (settled-of (e .before) .before)) in
     (s .pre .1 .few-bones, omega (arith, weighs-less e, s .pre .1 .low-threshold))
 
-leave-requires : tie.Need-leave-requires Inv-loop μ-loop
-leave-requires c κs = tt
-
 add-cuts : tie.Need-add-cuts Inv-loop μ-loop
 add-cuts c =
     let e = settled-of (cut-of c .before) in
     omega (arith, going-few (settled e), start-of (head-of (e .before)) .pre .1 .few-bones)
-
-loop-less-2 : tie.Need-loop-less-2 Inv-loop μ-loop
-loop-less-2 c = omega (arith, going-few (settled (settled-of (cut-of c .before))))
 
 loop-again-2 : tie.Need-loop-again-2 Inv-loop μ-loop
 loop-again-2 c =
@@ -140,17 +119,17 @@ finish-spec =
     (tie.spec
     Inv-loop
     μ-loop
-    degrees-requires
-    loop-holds
+    (λ c κs. tt)
+    (λ c. (refl, going-start (c .before .before .before .before .pre .1)))
     peel-requires
     loop-less
-    loop-again
+    (λ c. (head-of (c .before) .loop .inv .0, peeled (c .before)))
     search-requires
-    same-length
+    (λ c. settled (settled-of (c .before)) .long)
     returns
-    cast-from
+    (λ c. omega arith)
     cut-requires
-    leave-requires
+    (λ c κs. tt)
     add-cuts
-    loop-less-2
+    (λ c. omega (arith, going-few (settled (settled-of (cut-of c .before)))))
     loop-again-2)

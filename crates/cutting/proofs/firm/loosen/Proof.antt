@@ -14,30 +14,6 @@ use borrow.Author.Needs.{needs}
 use Rattle.cutting.proofs.firm.loosen.Statement.{statement}
 use Rattle.cutting.proofs.firm.loosen.Tie as tie
 
-mul-wide : tie.Need-mul-wide
-mul-wide c = search needs
-
-element-copy-out-wide : tie.Need-element-copy-out-wide
-element-copy-out-wide c = search needs
-
-wide-requires : tie.Need-wide-requires
-wide-requires c κs = search needs
-
-returns : tie.Need-returns
-returns c = search needs
-
-mul-notes : tie.Need-mul-notes
-mul-notes c = search needs
-
-element-write-notes : tie.Need-element-write-notes
-element-write-notes c = search needs
-
-lone-requires : tie.Need-lone-requires
-lone-requires c κs = search needs
-
-returns-2 : tie.Need-returns-2
-returns-2 c = search needs
-
 -- the cut is lawful
 law : (c : tie.Else2) → let s = c .before .before .before .before .before .before .before .before in Lawful (s .args .n) (held (s .args .table .now)) (s .args .k) (heapOf (s .args .names .now)) (cutOf (c .before .lone .result))
 unfolding Loosed
@@ -58,12 +34,6 @@ cut-requires c κs =
     let s = e .before .before .before .before .before .before .before .before in
     (s .pre .0, omega (arith, weighs-less e, s .pre .1))
 
-add-result : tie.Need-add-result
-add-result c = search needs
-
-same-length : tie.Need-same-length
-same-length c = search needs
-
 returns-3 : tie.Need-returns-3
 returns-3 c =
     let x = c .before .before .cut in
@@ -79,15 +49,15 @@ pub loosen-spec : {M : Type 1} → statement M
 loosen-spec =
     tie.close
     (tie.spec
-    mul-wide
-    element-copy-out-wide
-    wide-requires
-    returns
-    lone-requires
-    mul-notes
-    element-write-notes
-    returns-2
+    (λ c. search needs)
+    (λ c. search needs)
+    (λ c κs. search needs)
+    (λ c. search needs)
+    (λ c κs. search needs)
+    (λ c. search needs)
+    (λ c. search needs)
+    (λ c. search needs)
     cut-requires
-    add-result
-    same-length
+    (λ c. search needs)
+    (λ c. search needs)
     returns-3)

@@ -17,20 +17,11 @@ Inv-loop table n k names₀ notes₀ space₀ given cuts₀ u₀ names notes spa
 abbrev μ-loop : tie.MeasureT-loop
 μ-loop table n k names₀ notes₀ space₀ given cuts₀ u₀ names notes space cuts u = u
 
-loop-holds : tie.Need-loop-holds Inv-loop μ-loop
-loop-holds c = (le-refl _, peeled-none _ _ _ _ _ _ _, refl)
-
-sub-u : tie.Need-sub-u Inv-loop μ-loop
-sub-u c = omega arith
-
 loosen-requires : tie.Need-loosen-requires Inv-loop μ-loop
 loosen-requires c κs =
     let l = c .before .before .before .before .loop in
     let s = c .before .before .before .before .before .before in
     (s .pre .0, s .pre .1, omega arith, omega (arith, l .inv .1 .most, s .pre .0, s .pre .2))
-
-loop-less : tie.Need-loop-less Inv-loop μ-loop
-loop-less c = omega arith
 
 loop-again : tie.Need-loop-again Inv-loop μ-loop
 loop-again c =
@@ -42,9 +33,6 @@ loop-again c =
       subst (λ (m : ℕ). Peeled (s .args .n) (held (s .args .table .now)) (s .args .k) (s .args .names .now) (s .args .space .now) (s .args .given) (x .last .1 .1 .1 .0) (x .last .1 .1 .1 .1 .1 .0) (x .result) m) step (peeled-on (l .inv .1) (x .ensures)),
       x .kept .1 .1 .1 .1 .1 .0 ∙ l .inv .2,
     )
-
-same-length : tie.Need-same-length Inv-loop μ-loop
-same-length c = c .before .loop .inv .2
 
 returns : tie.Need-returns Inv-loop μ-loop
 returns c =
@@ -59,10 +47,10 @@ peel-spec =
     (tie.spec
     Inv-loop
     μ-loop
-    loop-holds
-    sub-u
+    (λ c. (le-refl _, peeled-none _ _ _ _ _ _ _, refl))
+    (λ c. omega arith)
     loosen-requires
-    loop-less
+    (λ c. omega arith)
     loop-again
-    same-length
+    (λ c. c .before .loop .inv .2)
     returns)

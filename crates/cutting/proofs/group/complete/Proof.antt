@@ -19,18 +19,12 @@ use borrow.Author.Needs.{needs}
 use Rattle.cutting.proofs.group.complete.Statement.{statement}
 use Rattle.cutting.proofs.group.complete.Tie as tie
 
-copy-requires : tie.Need-copy-requires
-copy-requires c κs = search needs
-
 -- the given entries are put in whole: there is room for all that may come
 given : (c : tie.After-copy) → let a = c .before .before .before .before .before .args in c .copy .last .1 .0 ≡ paste (a .space .now) 0 (a .entries .now) (length (a .entries .now))
 given c =
     let s = c .before .before .before .before .before in
     let sound = record-sound _ _ _ _ (s .pre .1 .1 .0) in
     c .copy .ensures ∙ paste-fits (s .args .space .now) 0 (s .args .entries .now) (omega (arith, sound .whole, sound .few, s .pre .0 .3))
-
-within-requires : tie.Need-within-requires
-within-requires c κs = search needs
 
 finish-requires : tie.Need-finish-requires
 finish-requires c κs =
@@ -42,18 +36,6 @@ finish-requires c κs =
           (subst (λ (m : ℕ). Begun (a .n) (held (a .table .now)) (a .k) (a .names .now) (paste (a .space .now) 0 (a .entries .now) (length (a .entries .now))) m) (sym (c .within .ensures))
           (given-begins (a .n) (held (a .table .now)) (a .k) (a .entries .now) (a .space .now) sound (s .pre .0 .0) (s .pre .0 .3) (a .names .now) (s .pre .0 .1) (s .pre .0 .2) (s .pre .1 .1 .1) (s .pre .1 .1 .2))),
     )
-
-write-names-requires : tie.Need-write-names-requires
-write-names-requires c κs = search needs
-
-count-piles-requires : tie.Need-count-piles-requires
-count-piles-requires c κs = search needs
-
-same-length : tie.Need-same-length
-same-length c = search needs
-
-same-length-2 : tie.Need-same-length-2
-same-length-2 c = search needs
 
 end : (c : tie.After-finish) → let a = c .before .before .before .before .before .before .before .before .before .before .before .before .args in Ended (a .n) (held (a .table .now)) (a .k) (paste (a .space .now) 0 (a .entries .now) (length (a .entries .now))) (length (a .entries .now) / entrySize) (c .finish .last .1 .1 .1 .0) (c .finish .last .1 .1 .1 .1 .0) (c .finish .result .cuts)
 end c =
@@ -78,11 +60,11 @@ pub complete-spec : {M : Type 1} → statement M
 complete-spec =
     tie.close
     (tie.spec
-    copy-requires
-    within-requires
+    (λ c κs. search needs)
+    (λ c κs. search needs)
     finish-requires
-    write-names-requires
-    count-piles-requires
-    same-length
-    same-length-2
+    (λ c κs. search needs)
+    (λ c κs. search needs)
+    (λ c. search needs)
+    (λ c. search needs)
     returns)

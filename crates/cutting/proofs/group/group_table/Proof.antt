@@ -17,15 +17,6 @@ use borrow.Author.Needs.{needs}
 use Rattle.cutting.proofs.group.group_table.Statement.{statement}
 use Rattle.cutting.proofs.group.group_table.Tie as tie
 
-judge-counts-requires : tie.Need-judge-counts-requires
-judge-counts-requires c κs = search needs
-
-enum-told : tie.Need-enum-told
-enum-told c = search needs
-
-enum-known-number : tie.Need-enum-known-number
-enum-known-number c = search needs
-
 returns : tie.Need-returns
 returns c = grouped-refused _ _ _ _ _ _ _ _ (first-refused _ _ _ _ (sym (c .before .before .before .judge-counts .ensures) ∙ c .before .number .given .1)) _
 
@@ -42,20 +33,8 @@ passes c rows = first-accepted _ rows (accepted c)
 returns-2 : tie.Need-returns-2
 returns-2 c = grouped-refused _ _ _ _ _ _ 7 0 (passes (c .before) _ ∙ label-short _ _ _ (c .if1 .taken)) _
 
-sub-if2 : tie.Need-sub-if2
-sub-if2 c = omega (arith, counted (c .before) .some-bones)
-
-mul-if2 : tie.Need-mul-if2
-mul-if2 c = let few = counted (c .before) .few-bones in search (needs, few)
-
 returns-3 : tie.Need-returns-3
 returns-3 c = grouped-refused _ _ _ _ _ _ 8 0 (passes (c .before .before) _ ∙ label-fits _ _ _ (c .before .if1 .left) ∙ space-short _ _ _ (c .if2 .taken)) _
-
-judge-record-requires : tie.Need-judge-record-requires
-judge-record-requires c κs = search needs
-
-enum-told-2 : tie.Need-enum-told-2
-enum-told-2 c = search needs
 
 -- the record's rows, tried among no more than 128 bones
 judged : (c : tie.After-judge-record) → let a = c .before .before .before .before .before .before .before .before .before .before .before .args in c .judge-record .result ≡ first (recordRows (a .n) (held (a .table .now)) (a .k) (a .entries .now))
@@ -68,15 +47,6 @@ complete-requires c κs =
     let whole = c .before .before .before .before .enum-told2 .given .1 in
     let left = judged-names (a .n) (a .entries .now) _ (counts .few-bones) whole (c .before .before .before .before .before .before .judge-record .ensures .1) in
     ((counts .some-bones, counts .few-bones, counts .low-threshold, c .before .before .before .before .before .before .before .before .before .if2 .left), (c .before .before .before .before .before .before .before .before .before .before .before .before .before .before .before .before .before .pre, (sym (judged (c .before .before .before .before .before .before)) ∙ whole, left .0, left .1)))
-
-enum-known-number-2 : tie.Need-enum-known-number-2
-enum-known-number-2 c = search needs
-
-same-length : tie.Need-same-length
-same-length c = search needs
-
-same-length-2 : tie.Need-same-length-2
-same-length-2 c = search needs
 
 returns-4 : tie.Need-returns-4
 returns-4 c =
@@ -94,19 +64,19 @@ pub group-table-spec : {M : Type 1} → statement M
 group-table-spec =
     tie.close
     (tie.spec
-    judge-counts-requires
-    enum-told
-    enum-known-number
+    (λ c κs. search needs)
+    (λ c. search needs)
+    (λ c. search needs)
     returns
     returns-2
-    sub-if2
-    mul-if2
+    (λ c. omega (arith, counted (c .before) .some-bones))
+    (λ c. let few = counted (c .before) .few-bones in search (needs, few))
     returns-3
-    judge-record-requires
-    enum-told-2
+    (λ c κs. search needs)
+    (λ c. search needs)
     complete-requires
-    enum-known-number-2
-    same-length
-    same-length-2
+    (λ c. search needs)
+    (λ c. search needs)
+    (λ c. search needs)
     returns-4
     returns-5)

@@ -11,12 +11,6 @@ use borrow.Author.Needs.{needs}
 use Rattle.cutting.proofs.group.grouping.Statement.{statement}
 use Rattle.cutting.proofs.group.grouping.Tie as tie
 
-fill-requires : tie.Need-fill-requires
-fill-requires c κs = search needs
-
-enum-told : tie.Need-enum-told
-enum-told c = search needs
-
 short : (c : tie.After-fill) → Short (linksOf (c .before .before .before .before .before .before .args .links .now))
 short c = linksOf-short _ (λ i. omega (arith, c .before .before .before .before .before .shared-slice-known .given i))
 
@@ -25,15 +19,6 @@ group-table-requires c κs =
     let a = c .before .before .before .before .before .before .before .before .before .before .before .args in
     let f = c .before .before .before .before .before in
     filled-small (a .n) (a .k) _ _ _ (f .fill .ensures .0) (c .before .before .before .enum-told .given .1) _ (f .fill .ensures .1) (short f)
-
-enum-known-number : tie.Need-enum-known-number
-enum-known-number c = search needs
-
-same-length : tie.Need-same-length
-same-length c = search needs
-
-same-length-2 : tie.Need-same-length-2
-same-length-2 c = search needs
 
 returns : tie.Need-returns
 returns c =
@@ -56,11 +41,11 @@ pub grouping-spec : {M : Type 1} → statement M
 grouping-spec =
     tie.close
     (tie.spec
-    fill-requires
-    enum-told
+    (λ c κs. search needs)
+    (λ c. search needs)
     group-table-requires
-    enum-known-number
-    same-length
-    same-length-2
+    (λ c. search needs)
+    (λ c. search needs)
+    (λ c. search needs)
     returns
     returns-2)

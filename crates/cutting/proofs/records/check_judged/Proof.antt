@@ -8,17 +8,8 @@ use Rattle.cutting.proofs.Judged.{judged-accepted, judged-refused}
 use Rattle.cutting.proofs.records.check_judged.Statement.{statement}
 use Rattle.cutting.proofs.records.check_judged.Tie as tie
 
-enum-told : tie.Need-enum-told
-enum-told c = search needs
-
 check-table-requires : tie.Need-check-table-requires
 check-table-requires c κs = c .before .before .before .before .before .before .pre (c .before .before .enum-told .given .1) .1
-
-enum-known-judged : tie.Need-enum-known-judged
-enum-known-judged c = search needs
-
-same-length : tie.Need-same-length
-same-length c = search needs
 
 returns : tie.Need-returns
 returns c =
@@ -31,4 +22,4 @@ returns-2 c = checked-refused _ _ _ _ _ _ _ _ (judged-refused _ _ _ _ (c .before
 pub check-judged-spec : {M : Type 1} → statement M
 check-judged-spec =
     tie.close
-    (tie.spec enum-told check-table-requires enum-known-judged same-length returns returns-2)
+    (tie.spec (λ c. search needs) check-table-requires (λ c. search needs) (λ c. search needs) returns returns-2)

@@ -8,20 +8,8 @@ use Rattle.cutting.proofs.Judged.{judged-accepted, judged-refused}
 use Rattle.cutting.proofs.records.group_judged.Statement.{statement}
 use Rattle.cutting.proofs.records.group_judged.Tie as tie
 
-enum-told : tie.Need-enum-told
-enum-told c = search needs
-
 group-table-requires : tie.Need-group-table-requires
 group-table-requires c κs = c .before .before .before .before .before .before .before .before .pre (c .before .before .before .enum-told .given .1) .1
-
-enum-known-judged : tie.Need-enum-known-judged
-enum-known-judged c = search needs
-
-same-length : tie.Need-same-length
-same-length c = search needs
-
-same-length-2 : tie.Need-same-length-2
-same-length-2 c = search needs
 
 returns : tie.Need-returns
 returns c =
@@ -34,4 +22,4 @@ returns-2 c = grouped-refused _ _ _ _ _ _ _ _ (judged-refused _ _ _ _ (c .before
 pub group-judged-spec : {M : Type 1} → statement M
 group-judged-spec =
     tie.close
-    (tie.spec enum-told group-table-requires enum-known-judged same-length same-length-2 returns returns-2)
+    (tie.spec (λ c. search needs) group-table-requires (λ c. search needs) (λ c. search needs) (λ c. search needs) returns returns-2)

@@ -7,12 +7,6 @@ use borrow.Author.Needs.{needs}
 use Rattle.cutting.proofs.records.label_judged.Statement.{statement}
 use Rattle.cutting.proofs.records.label_judged.Tie as tie
 
-enum-told : tie.Need-enum-told
-enum-told c = search needs
-
-enum-known-judged : tie.Need-enum-known-judged
-enum-known-judged c = search needs
-
 returns : tie.Need-returns
 returns c = (sym (judged-refused _ _ _ _ (c .before .judged .given .1)), λ e. absurd (never-both _ _ _ e refl))
 
@@ -30,4 +24,4 @@ returns-3 c =
 pub label-judged-spec : {M : Type 1} → statement M
 label-judged-spec =
     tie.close
-    (tie.spec enum-told enum-known-judged returns returns-2 name-groups-requires returns-3)
+    (tie.spec (λ c. search needs) (λ c. search needs) returns returns-2 name-groups-requires returns-3)

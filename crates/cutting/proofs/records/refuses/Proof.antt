@@ -5,12 +5,6 @@ use Rattle.cutting.specs.Thin.{refused}
 use Rattle.cutting.proofs.records.refuses.Statement.{statement}
 use Rattle.cutting.proofs.records.refuses.Tie as tie
 
-enum-told : tie.Need-enum-told
-enum-told c = search needs
-
-enum-told-2 : tie.Need-enum-told-2
-enum-told-2 c = search needs
-
 returns : tie.Need-returns
 unfolding refused
 returns c = sym (ap refused (c .enum-told .given .1))
@@ -20,4 +14,4 @@ unfolding refused
 returns-2 c = sym (ap refused (c .enum-told2 .given .1))
 
 pub refuses-spec : {M : Type 1} → statement M
-refuses-spec = tie.close (tie.spec enum-told enum-told-2 returns returns-2)
+refuses-spec = tie.close (tie.spec (λ c. search needs) (λ c. search needs) returns returns-2)

@@ -7,14 +7,8 @@ use borrow.Author.Needs.{needs}
 use Rattle.cutting.proofs.records.thinned.Statement.{statement}
 use Rattle.cutting.proofs.records.thinned.Tie as tie
 
-enum-told : tie.Need-enum-told
-enum-told c = search needs
-
 cast-t6 : tie.Need-cast-t6
 cast-t6 c = let few = c .before .before .pre (c .enum-told .given .1) in omega (arith, few)
-
-enum-known-judged : tie.Need-enum-known-judged
-enum-known-judged c = search needs
 
 returns : tie.Need-returns
 unfolding keeping
@@ -25,4 +19,4 @@ unfolding keeping
 returns-2 c = sym (ap (λ (j : Judged). keeping j (c .before .before .before .args .count)) (c .before .judged .given .1))
 
 pub thinned-spec : {M : Type 1} → statement M
-thinned-spec = tie.close (tie.spec enum-told cast-t6 enum-known-judged returns returns-2)
+thinned-spec = tie.close (tie.spec (λ c. search needs) cast-t6 (λ c. search needs) returns returns-2)

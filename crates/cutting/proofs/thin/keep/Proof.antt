@@ -12,29 +12,17 @@ Inv-loop names links space₀ count kept₀ i₀ space kept i = Keeping names li
 abbrev μ-loop : tie.MeasureT-loop
 μ-loop names links space₀ count kept₀ i₀ space kept i = length links / 4 - i
 
-loop-holds : tie.Need-loop-holds Inv-loop μ-loop
-loop-holds c = keeping-start _ _ _
-
 keep-link-requires : tie.Need-keep-link-requires Inv-loop μ-loop
 keep-link-requires c κs =
     let s = c .before .before .before .before .before in
     let head = c .before .before .loop in
     (omega arith, omega (arith, head .inv .most, head .inv .long, s .pre))
 
-add-i : tie.Need-add-i Inv-loop μ-loop
-add-i c = omega arith
-
-loop-less : tie.Need-loop-less Inv-loop μ-loop
-loop-less c = omega arith
-
 loop-again : tie.Need-loop-again Inv-loop μ-loop
 loop-again c =
     let s = c .before .before .before .before .before .before .before .before in
     let head = c .before .before .before .before .before .loop in
     keeping-next _ _ _ _ _ _ (head .inv) (omega arith) _ _ (s .pre) (λ j. omega (arith, c .before .before .before .before .before .before .before .shared-slice-known .given j)) (c .before .before .keep-link .ensures)
-
-same-length : tie.Need-same-length Inv-loop μ-loop
-same-length c = omega (arith, c .before .loop .inv .long)
 
 returns : tie.Need-returns Inv-loop μ-loop
 returns c = let e = keeping-end _ _ _ _ _ _ (c .before .loop .inv) (omega arith) in (e .0, e .1)
@@ -45,10 +33,10 @@ keep-spec =
     (tie.spec
     Inv-loop
     μ-loop
-    loop-holds
+    (λ c. keeping-start _ _ _)
     keep-link-requires
-    add-i
-    loop-less
+    (λ c. omega arith)
+    (λ c. omega arith)
     loop-again
-    same-length
+    (λ c. omega (arith, c .before .loop .inv .long))
     returns)

@@ -17,15 +17,6 @@ use borrow.Author.Needs.{needs}
 use Rattle.cutting.proofs.thin.keep_link.Statement.{statement}
 use Rattle.cutting.proofs.thin.keep_link.Tie as tie
 
-mul-at : tie.Need-mul-at
-mul-at c = search needs
-
-link-at-requires : tie.Need-link-at-requires
-link-at-requires c κs = search needs
-
-same-label-requires : tie.Need-same-label-requires
-same-label-requires c κs = search needs
-
 -- the link that was read is the one in its place
 read-so : (names links : List ℕ) (i : ℕ) (d : Link) {l : Link} {r : Bool} → i * 4 + 4 ≤ length links → l ≡ getD (linksOf links) i d → r ≡ sameLabel names l
     → sameLabel names (linkAt links i) ≡ r
@@ -35,30 +26,6 @@ returns : tie.Need-returns
 returns c =
     let s = c .before .before .before .before .before in
     keeps-not _ _ _ _ (read-so _ _ _ _ (s .pre .0) (c .before .before .link-at .ensures) (c .before .same-label .ensures) ∙ not-true _ (c .if1 .taken))
-
-add-copy : tie.Need-add-copy
-add-copy c = search needs
-
-sub-copy : tie.Need-sub-copy
-sub-copy c = search needs
-
-part-copy-start : tie.Need-part-copy-start
-part-copy-start c = search needs
-
-part-copy-end : tie.Need-part-copy-end
-part-copy-end c = search needs
-
-mul-copy : tie.Need-mul-copy
-mul-copy c = search needs
-
-copy-requires : tie.Need-copy-requires
-copy-requires c κs = search needs
-
-add-result : tie.Need-add-result
-add-result c = search needs
-
-same-length : tie.Need-same-length
-same-length c = search needs
 
 returns-2 : tie.Need-returns-2
 returns-2 c =
@@ -77,16 +44,16 @@ pub keep-link-spec : {M : Type 1} → statement M
 keep-link-spec =
     tie.close
     (tie.spec
-    mul-at
-    link-at-requires
-    same-label-requires
+    (λ c. search needs)
+    (λ c κs. search needs)
+    (λ c κs. search needs)
     returns
-    add-copy
-    sub-copy
-    part-copy-start
-    part-copy-end
-    mul-copy
-    copy-requires
-    add-result
-    same-length
+    (λ c. search needs)
+    (λ c. search needs)
+    (λ c. search needs)
+    (λ c. search needs)
+    (λ c. search needs)
+    (λ c κs. search needs)
+    (λ c. search needs)
+    (λ c. search needs)
     returns-2)

@@ -9,15 +9,6 @@ use borrow.Author.Needs.{needs}
 use Rattle.cutting.proofs.thin.name_groups.Statement.{statement}
 use Rattle.cutting.proofs.thin.name_groups.Tie as tie
 
-slice-aggregate-group-table : tie.Need-slice-aggregate-group-table
-slice-aggregate-group-table c = search needs
-
-slice-aggregate-group-table-2 : tie.Need-slice-aggregate-group-table-2
-slice-aggregate-group-table-2 c = search needs
-
-group-table-requires : tie.Need-group-table-requires
-group-table-requires c κs = c .before .before .before .before .before .pre .1
-
 returns : tie.Need-returns
 returns c =
     labels-named _ _ _ _ _ (c .before .before .before .before .before .before .before .pre .0) refl (omega (arith, length-replicate {A = ℕ} (127 * entrySize) 0)) _ _ _ (c .before .group-table .ensures)
@@ -26,7 +17,7 @@ pub name-groups-spec : {M : Type 1} → statement M
 name-groups-spec =
     tie.close
     (tie.spec
-    slice-aggregate-group-table
-    slice-aggregate-group-table-2
-    group-table-requires
+    (λ c. search needs)
+    (λ c. search needs)
+    (λ c κs. c .before .before .before .before .before .pre .1)
     returns)

@@ -19,16 +19,10 @@ name-groups-requires c κs =
     let s = c .before .before .before .before .before in
     (s .pre .0, s .pre .3)
 
-keep-requires : tie.Need-keep-requires
-keep-requires c κs = c .before .before .before .before .before .if1 .left
-
 cast-t18 : tie.Need-cast-t18
 cast-t18 c =
     let s = c .before .before .before .before .before .before .before .before .before .before .before in
     omega (arith, c .before .before .keep .ensures .0, kept-most (c .before .before .before .before .before .name-groups .last .1 .1 .1 .0) (linksOf (s .args .links .now)), length-linksOf (s .args .links .now), s .pre .1)
-
-same-length : tie.Need-same-length
-same-length c = search needs
 
 returns-2 : tie.Need-returns-2
 returns-2 c =
@@ -42,4 +36,4 @@ returns-2 c =
 
 pub thin-table-spec : {M : Type 1} → statement M
 thin-table-spec =
-    tie.close (tie.spec returns name-groups-requires keep-requires cast-t18 same-length returns-2)
+    tie.close (tie.spec returns name-groups-requires (λ c κs. c .before .before .before .before .before .if1 .left) cast-t18 (λ c. search needs) returns-2)

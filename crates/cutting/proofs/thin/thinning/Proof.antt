@@ -13,12 +13,6 @@ use borrow.Author.Needs.{needs}
 use Rattle.cutting.proofs.thin.thinning.Statement.{statement}
 use Rattle.cutting.proofs.thin.thinning.Tie as tie
 
-fill-requires : tie.Need-fill-requires
-fill-requires c κs = search needs
-
-enum-told : tie.Need-enum-told
-enum-told c = search needs
-
 short : (c : tie.After-fill) → Short (linksOf (c .before .before .before .before .args .links .now))
 short c = linksOf-short _ (λ i. omega (arith, c .before .before .before .shared-slice-known .given i))
 
@@ -36,12 +30,6 @@ thin-table-requires c κs =
       links-proper (a .n) 0 links (table-proper (a .n) (a .k) _ links accepted),
       filled-small (a .n) (a .k) _ links _ judged told _ (f .fill .ensures .1) (short f),
     )
-
-enum-known-number : tie.Need-enum-known-number
-enum-known-number c = search needs
-
-same-length : tie.Need-same-length
-same-length c = search needs
 
 returns : tie.Need-returns
 returns c =
@@ -61,10 +49,10 @@ pub thinning-spec : {M : Type 1} → statement M
 thinning-spec =
     tie.close
     (tie.spec
-    fill-requires
-    enum-told
+    (λ c κs. search needs)
+    (λ c. search needs)
     thin-table-requires
-    enum-known-number
-    same-length
+    (λ c. search needs)
+    (λ c. search needs)
     returns
     returns-2)

@@ -5,19 +5,10 @@ use borrow.Author.Needs.{needs}
 use Rattle.frames.proofs.digits.value.Statement.{statement}
 use Rattle.frames.proofs.digits.value.Tie as tie
 
-wrapping-sub-u8-requires : tie.Need-wrapping-sub-u8-requires
-wrapping-sub-u8-requires c κs = search needs
-
-wrapping-sub-u8-requires-2 : tie.Need-wrapping-sub-u8-requires-2
-wrapping-sub-u8-requires-2 c κs = search needs
-
 returns : tie.Need-returns
 returns c =
     let x = c .before .before .before .args .c in
     omega (arith, value-low x (omega arith) (omega arith))
-
-add-result : tie.Need-add-result
-add-result c = search needs
 
 returns-2 : tie.Need-returns-2
 returns-2 c =
@@ -33,9 +24,9 @@ pub value-spec : {M : Type 1} → statement M
 value-spec =
     tie.close
     (tie.spec
-    wrapping-sub-u8-requires
-    wrapping-sub-u8-requires-2
+    (λ c κs. search needs)
+    (λ c κs. search needs)
     returns
-    add-result
+    (λ c. search needs)
     returns-2
     returns-3)

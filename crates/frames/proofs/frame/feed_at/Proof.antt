@@ -5,20 +5,11 @@ use Rattle.frames.proofs.Characters.{feed-none, feed-some}
 use Rattle.frames.proofs.frame.feed_at.Statement.{statement}
 use Rattle.frames.proofs.frame.feed_at.Tie as tie
 
-sub-if1 : tie.Need-sub-if1
-sub-if1 c = search needs
-
 returns : tie.Need-returns
 returns c = let a = c .before .args in feed-none (a .left .now) (a .size) (omega arith)
-
-mul-result : tie.Need-mul-result
-mul-result c = search needs
-
-shared-slice-read-result : tie.Need-shared-slice-read-result
-shared-slice-read-result c = search needs
 
 returns-2 : tie.Need-returns-2
 returns-2 c = let a = c .before .before .args in feed-some (a .left .now) (a .size) (omega arith)
 
 pub feed-at-spec : {M : Type 1} → statement M
-feed-at-spec = tie.close (tie.spec sub-if1 returns mul-result shared-slice-read-result returns-2)
+feed-at-spec = tie.close (tie.spec (λ c. search needs) returns (λ c. search needs) (λ c. search needs) returns-2)

@@ -16,21 +16,6 @@ Inv-loop names copy₀ b₀ copy b = (b ≤ 128) × (copy ≡ written b (heapOf 
 abbrev μ-loop : tie.MeasureT-loop
 μ-loop names copy₀ b₀ copy b = 128 - b
 
-loop-holds : tie.Need-loop-holds Inv-loop μ-loop
-loop-holds c = (zero-le, written-none _ (replicate 128 0))
-
-element-copy-out-copy : tie.Need-element-copy-out-copy Inv-loop μ-loop
-element-copy-out-copy c = omega arith
-
-array-write-copy : tie.Need-array-write-copy Inv-loop μ-loop
-array-write-copy c = omega arith
-
-add-b : tie.Need-add-b Inv-loop μ-loop
-add-b c = omega arith
-
-loop-less : tie.Need-loop-less Inv-loop μ-loop
-loop-less c = omega arith
-
 loop-again : tie.Need-loop-again Inv-loop μ-loop
 unfolding heapOf
 loop-again c =
@@ -54,10 +39,10 @@ copied-spec =
     (tie.spec
     Inv-loop
     μ-loop
-    loop-holds
-    element-copy-out-copy
-    array-write-copy
-    add-b
-    loop-less
+    (λ c. (zero-le, written-none _ (replicate 128 0)))
+    (λ c. omega arith)
+    (λ c. omega arith)
+    (λ c. omega arith)
+    (λ c. omega arith)
     loop-again
     returns)

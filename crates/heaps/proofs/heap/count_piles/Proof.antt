@@ -20,18 +20,9 @@ Inv-loop names n bones count₀ b₀ count b = (b ≤ bones) × (count ≡ sum b
 abbrev μ-loop : tie.MeasureT-loop
 μ-loop names n bones count₀ b₀ count b = bones - b
 
-lesser-requires : tie.Need-lesser-requires Inv-loop μ-loop
-lesser-requires c κs = search needs
-
 loop-holds : tie.Need-loop-holds Inv-loop μ-loop
 unfolding sum
 loop-holds c = (zero-le, refl)
-
-element-copy-out-heads : tie.Need-element-copy-out-heads Inv-loop μ-loop
-element-copy-out-heads c = omega (arith, c .before .before .lesser .ensures)
-
-heads-requires : tie.Need-heads-requires Inv-loop μ-loop
-heads-requires c κs = search needs
 
 -- so many heads fit: there are no more than bones
 sum-fits : (names : List ℕ) (b count more : ℕ) → b < 128 → count ≡ sum b (λ x. cond (eqb (heapOf names x) x) 1 0) → more ≡ cond (eqb (heapOf names b) b) 1 0 → Fits w32 (count + more)
@@ -41,12 +32,6 @@ sum-fits names b count more h e f =
 add-count : tie.Need-add-count Inv-loop μ-loop
 unfolding heapOf
 add-count c = sum-fits (c .before .before .before .before .before .args .names .now) _ _ _ (omega (arith, c .before .before .before .before .lesser .ensures)) (c .before .before .before .loop .inv .1) (c .heads .ensures)
-
-add-b : tie.Need-add-b Inv-loop μ-loop
-add-b c = omega arith
-
-loop-less : tie.Need-loop-less Inv-loop μ-loop
-loop-less c = omega arith
 
 loop-again : tie.Need-loop-again Inv-loop μ-loop
 unfolding heapOf
@@ -68,12 +53,12 @@ count-piles-spec =
     (tie.spec
     Inv-loop
     μ-loop
-    lesser-requires
+    (λ c κs. search needs)
     loop-holds
-    element-copy-out-heads
-    heads-requires
+    (λ c. omega (arith, c .before .before .lesser .ensures))
+    (λ c κs. search needs)
     add-count
-    add-b
-    loop-less
+    (λ c. omega arith)
+    (λ c. omega arith)
     loop-again
     returns)

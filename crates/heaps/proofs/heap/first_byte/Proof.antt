@@ -13,26 +13,8 @@ Inv-loop side j₀ j = (j ≤ 16) × ((i : ℕ) → i < j → getD side i 0 ≡ 
 abbrev μ-loop : tie.MeasureT-loop
 μ-loop side j₀ j = 16 - j
 
-loop-holds : tie.Need-loop-holds Inv-loop μ-loop
-loop-holds c = (zero-le, below-none _)
-
-element-copy-out-if1 : tie.Need-element-copy-out-if1 Inv-loop μ-loop
-element-copy-out-if1 c = omega arith
-
-returns : tie.Need-returns Inv-loop μ-loop
-returns c = (omega arith, c .before .before .before .loop .inv .1)
-
-add-j : tie.Need-add-j Inv-loop μ-loop
-add-j c = omega arith
-
-loop-less : tie.Need-loop-less Inv-loop μ-loop
-loop-less c = omega arith
-
 loop-again : tie.Need-loop-again Inv-loop μ-loop
 loop-again c = (omega arith, below-more _ _ (c .before .before .before .loop .inv .1) (omega arith))
-
-returns-2 : tie.Need-returns-2 Inv-loop μ-loop
-returns-2 c = (omega arith, λ j l. c .before .loop .inv .1 j (omega arith))
 
 pub first-byte-spec : {M : Type 1} → statement M
 first-byte-spec =
@@ -40,10 +22,10 @@ first-byte-spec =
     (tie.spec
     Inv-loop
     μ-loop
-    loop-holds
-    element-copy-out-if1
-    returns
-    add-j
-    loop-less
+    (λ c. (zero-le, below-none _))
+    (λ c. omega arith)
+    (λ c. (omega arith, c .before .before .before .loop .inv .1))
+    (λ c. omega arith)
+    (λ c. omega arith)
     loop-again
-    returns-2)
+    (λ c. (omega arith, λ j l. c .before .loop .inv .1 j (omega arith))))

@@ -3,11 +3,5 @@ use borrow.Author.Tests.{eq-eqb, ne-eqb}
 use Rattle.heaps.proofs.heap.heads.Statement.{statement}
 use Rattle.heaps.proofs.heap.heads.Tie as tie
 
-returns : tie.Need-returns
-returns c = simp (eq-eqb _ _ (c .if1 .taken))
-
-returns-2 : tie.Need-returns-2
-returns-2 c = simp (ne-eqb _ _ (c .if1 .left))
-
 pub heads-spec : {M : Type 1} → statement M
-heads-spec = tie.close (tie.spec returns returns-2)
+heads-spec = tie.close (tie.spec (λ c. simp (eq-eqb _ _ (c .if1 .taken))) (λ c. simp (ne-eqb _ _ (c .if1 .left))))

@@ -20,26 +20,11 @@ Inv-loop side n b₀ b = (b ≤ n) × ((x : ℕ) → x < b → T (not (sideOf si
 abbrev μ-loop : tie.MeasureT-loop
 μ-loop side n b₀ b = n - b
 
-first-byte-requires : tie.Need-first-byte-requires Inv-loop μ-loop
-first-byte-requires c κs = search needs
-
-mul-lesser : tie.Need-mul-lesser Inv-loop μ-loop
-mul-lesser c = omega (arith, c .first-byte .ensures .0)
-
-lesser-requires : tie.Need-lesser-requires Inv-loop μ-loop
-lesser-requires c κs = search needs
-
 loop-holds : tie.Need-loop-holds Inv-loop μ-loop
 loop-holds c = (
   omega (arith, c .lesser .ensures),
   λ x l. byte-nought (c .before .before .args .side .now) x (c .before .first-byte .ensures .1 (x / 8) (omega (arith, c .lesser .ensures))),
 )
-
-in-side-requires : tie.Need-in-side-requires Inv-loop μ-loop
-in-side-requires c κs = search needs
-
-cast-result : tie.Need-cast-result Inv-loop μ-loop
-cast-result c = omega arith
 
 returns : tie.Need-returns Inv-loop μ-loop
 returns c =
@@ -49,20 +34,11 @@ returns c =
     (holds (sym (on-side (a .side .now) (head .b) (omega arith) (c .before .in-side .ensures)) ∙ c .if1 .taken))
     (head .inv .1))
 
-add-b : tie.Need-add-b Inv-loop μ-loop
-add-b c = omega arith
-
-loop-less : tie.Need-loop-less Inv-loop μ-loop
-loop-less c = omega arith
-
 loop-again : tie.Need-loop-again Inv-loop μ-loop
 loop-again c =
     let a = c .before .before .before .before .before .before .args in
     let head = c .before .before .before .loop in
     (omega arith, below-more _ (head .b) (head .inv .1) (fails (sym (on-side (a .side .now) (head .b) (omega arith) (c .before .in-side .ensures)) ∙ c .if1 .left)))
-
-cast-result-2 : tie.Need-cast-result-2 Inv-loop μ-loop
-cast-result-2 c = omega arith
 
 returns-2 : tie.Need-returns-2 Inv-loop μ-loop
 returns-2 c =
@@ -75,15 +51,15 @@ least-of-spec =
     (tie.spec
     Inv-loop
     μ-loop
-    first-byte-requires
-    mul-lesser
-    lesser-requires
+    (λ c κs. search needs)
+    (λ c. omega (arith, c .first-byte .ensures .0))
+    (λ c κs. search needs)
     loop-holds
-    in-side-requires
-    cast-result
+    (λ c κs. search needs)
+    (λ c. omega arith)
     returns
-    add-b
-    loop-less
+    (λ c. omega arith)
+    (λ c. omega arith)
     loop-again
-    cast-result-2
+    (λ c. omega arith)
     returns-2)

@@ -22,15 +22,6 @@ Inv-loop old n side name after₀ byte₀ after byte =
 abbrev μ-loop : tie.MeasureT-loop
 μ-loop names n side name after₀ byte₀ after byte = 16 - byte
 
-lesser-requires : tie.Need-lesser-requires Inv-loop μ-loop
-lesser-requires c κs = search needs
-
-least-of-requires : tie.Need-least-of-requires Inv-loop μ-loop
-least-of-requires c κs = omega (arith, c .lesser .ensures)
-
-copied-requires : tie.Need-copied-requires Inv-loop μ-loop
-copied-requires c κs = search needs
-
 loop-holds : tie.Need-loop-holds Inv-loop μ-loop
 loop-holds c =
     let a = c .before .before .before .before .before .before .args in
@@ -38,12 +29,6 @@ loop-holds c =
 
 rename-requires : tie.Need-rename-requires Inv-loop μ-loop
 rename-requires c κs = (omega arith, ap length (c .before .before .before .loop .inv .1) ∙ length-names 128 _)
-
-add-byte : tie.Need-add-byte Inv-loop μ-loop
-add-byte c = omega arith
-
-loop-less : tie.Need-loop-less Inv-loop μ-loop
-loop-less c = omega arith
 
 loop-again : tie.Need-loop-again Inv-loop μ-loop
 loop-again c =
@@ -78,12 +63,12 @@ part-spec =
     (tie.spec
     Inv-loop
     μ-loop
-    lesser-requires
-    least-of-requires
-    copied-requires
+    (λ c κs. search needs)
+    (λ c κs. omega (arith, c .lesser .ensures))
+    (λ c κs. search needs)
     loop-holds
     rename-requires
-    add-byte
-    loop-less
+    (λ c. omega arith)
+    (λ c. omega arith)
     loop-again
     returns)

@@ -20,9 +20,6 @@ Inv-loop names₀ side byte name from to b₀ new b =
 abbrev μ-loop : tie.MeasureT-loop
 μ-loop names₀ side byte name from to b₀ names b = to - b
 
-element-copy-out-if1 : tie.Need-element-copy-out-if1 Inv-loop μ-loop
-element-copy-out-if1 c = omega arith
-
 returns : tie.Need-returns Inv-loop μ-loop
 returns c =
     let a = c .before .before .args in
@@ -30,34 +27,10 @@ returns c =
     (λ b lo hi t. let same : b / 8 ≡ a .byte = omega arith in
     T-not (sideOf (a .side .now) b) (byte-nought (a .side .now) b (ap (λ (j : ℕ). getD (a .side .now) j 0) same ∙ c .if1 .taken)) t)
 
-mul-from : tie.Need-mul-from Inv-loop μ-loop
-mul-from c = omega arith
-
-add-to : tie.Need-add-to Inv-loop μ-loop
-add-to c = omega arith
-
 loop-holds : tie.Need-loop-holds Inv-loop μ-loop
 loop-holds c =
     let a = c .before .before .args in
     (omega arith, omega arith, renamed-none (sideOf (a .side .now)) (a .name) 128 (a .byte * 8) (a .byte * 8) (a .names .now) (c .before .before .pre .1) (λ b lo hi t. omega arith))
-
-in-side-requires : tie.Need-in-side-requires Inv-loop μ-loop
-in-side-requires c κs = search needs
-
-element-copy-out-renamed : tie.Need-element-copy-out-renamed Inv-loop μ-loop
-element-copy-out-renamed c = omega arith
-
-renamed-requires : tie.Need-renamed-requires Inv-loop μ-loop
-renamed-requires c κs = search needs
-
-element-write-names : tie.Need-element-write-names Inv-loop μ-loop
-element-write-names c = omega arith
-
-add-b : tie.Need-add-b Inv-loop μ-loop
-add-b c = omega arith
-
-loop-less : tie.Need-loop-less Inv-loop μ-loop
-loop-less c = omega arith
 
 loop-again : tie.Need-loop-again Inv-loop μ-loop
 unfolding heapOf
@@ -82,16 +55,16 @@ rename-spec =
     (tie.spec
     Inv-loop
     μ-loop
-    element-copy-out-if1
+    (λ c. omega arith)
     returns
-    mul-from
-    add-to
+    (λ c. omega arith)
+    (λ c. omega arith)
     loop-holds
-    in-side-requires
-    element-copy-out-renamed
-    renamed-requires
-    element-write-names
-    add-b
-    loop-less
+    (λ c κs. search needs)
+    (λ c. omega arith)
+    (λ c κs. search needs)
+    (λ c. omega arith)
+    (λ c. omega arith)
+    (λ c. omega arith)
     loop-again
     returns-2)

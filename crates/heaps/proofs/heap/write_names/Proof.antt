@@ -18,12 +18,6 @@ Inv-loop names n labels₀ count at₀ labels at =
 abbrev μ-loop : tie.MeasureT-loop
 μ-loop names n labels₀ count at₀ labels at = count - at
 
-lesser-requires : tie.Need-lesser-requires Inv-loop μ-loop
-lesser-requires c κs = search needs
-
-lesser-requires-2 : tie.Need-lesser-requires-2 Inv-loop μ-loop
-lesser-requires-2 c κs = search needs
-
 loop-holds : tie.Need-loop-holds Inv-loop μ-loop
 loop-holds c =
     let a = c .before .before .before .args in
@@ -31,15 +25,6 @@ loop-holds c =
 
 name-of-requires : tie.Need-name-of-requires Inv-loop μ-loop
 name-of-requires c κs = omega (arith, c .before .before .lesser2 .ensures, c .before .before .before .lesser .ensures)
-
-slice-write-labels : tie.Need-slice-write-labels Inv-loop μ-loop
-slice-write-labels c = omega (arith, c .before .before .before .lesser2 .ensures)
-
-add-at : tie.Need-add-at Inv-loop μ-loop
-add-at c = omega arith
-
-loop-less : tie.Need-loop-less Inv-loop μ-loop
-loop-less c = omega arith
 
 loop-again : tie.Need-loop-again Inv-loop μ-loop
 unfolding heapOf
@@ -52,9 +37,6 @@ loop-again c =
           ∙ written-next (head .at) (heapOf (a .names .now)) (a .labels .now) inside,
       simp length-set (head .inv .2),
     )
-
-same-length : tie.Need-same-length Inv-loop μ-loop
-same-length c = omega arith
 
 returns : tie.Need-returns Inv-loop μ-loop
 returns c =
@@ -70,13 +52,13 @@ write-names-spec =
     (tie.spec
     Inv-loop
     μ-loop
-    lesser-requires
-    lesser-requires-2
+    (λ c κs. search needs)
+    (λ c κs. search needs)
     loop-holds
     name-of-requires
-    slice-write-labels
-    add-at
-    loop-less
+    (λ c. omega (arith, c .before .before .before .lesser2 .ensures))
+    (λ c. omega arith)
+    (λ c. omega arith)
     loop-again
-    same-length
+    (λ c. omega arith)
     returns)

@@ -6,12 +6,6 @@ use Rattle.inputs.proofs.WritesRows.{begun-refused, begun-after}
 use Rattle.inputs.proofs.input.begin.Statement.{statement}
 use Rattle.inputs.proofs.input.begin.Tie as tie
 
-enum-known-judged : tie.Need-enum-known-judged
-enum-known-judged c = search needs
-
-enum-told : tie.Need-enum-told
-enum-told c = search needs
-
 begin-judged-requires : tie.Need-begin-judged-requires
 begin-judged-requires c κs = c .before .before .before .before .before .pre (c .before .enum-told .given .1)
 
@@ -20,9 +14,6 @@ returns c =
     let s = c .before .before .before .before .before in
     begun-refused (s .args .n) (s .args .k) (s .args .count) (s .args .bytes .now) (s .args .text .now) _ (sym (firstOf-refused _ (c .before .judged .given .1)))
 
-same-length : tie.Need-same-length
-same-length c = search needs
-
 returns-2 : tie.Need-returns-2
 returns-2 c =
     begun-after _ _ _ _ _ _ _ _ _ (c .before .before .before .before .enum-told .given .1) (c .before .before .begin-judged .ensures)
@@ -30,4 +21,4 @@ returns-2 c =
 pub begin-spec : {M : Type 1} → statement M
 begin-spec =
     tie.close
-    (tie.spec enum-known-judged enum-told begin-judged-requires returns same-length returns-2)
+    (tie.spec (λ c. search needs) (λ c. search needs) begin-judged-requires returns (λ c. search needs) returns-2)

@@ -7,15 +7,6 @@ use Rattle.inputs.proofs.WritesRows.{later-accepted, begun-refused, beg
 use Rattle.inputs.proofs.input.begin_judged.Statement.{statement}
 use Rattle.inputs.proofs.input.begin_judged.Tie as tie
 
-judge-later-requires : tie.Need-judge-later-requires
-judge-later-requires c κs = search needs
-
-enum-known-later : tie.Need-enum-known-later
-enum-known-later c = search needs
-
-enum-told : tie.Need-enum-told
-enum-told c = search needs
-
 put-around-requires : tie.Need-put-around-requires
 put-around-requires c κs = (c .before .before .before .before .before .before .pre, sym (c .before .before .before .judge-later .ensures) ∙ c .before .enum-told .given .1)
 
@@ -36,9 +27,6 @@ returns c =
     let s = c .before .before .before .before .before .before in
     begun-refused (s .args .n) (s .args .k) (s .args .count) (s .args .bytes .now) (s .args .text .now) _ (sym (c .before .before .before .judge-later .ensures) ∙ c .before .later .given .1)
 
-same-length : tie.Need-same-length
-same-length c = search needs
-
 returns-2 : tie.Need-returns-2
 returns-2 c =
     let s = c .before .before .before .before .before .before .before .before .before .before in
@@ -51,12 +39,12 @@ pub begin-judged-spec : {M : Type 1} → statement M
 begin-judged-spec =
     tie.close
     (tie.spec
-    judge-later-requires
-    enum-known-later
-    enum-told
+    (λ c κs. search needs)
+    (λ c. search needs)
+    (λ c. search needs)
     put-around-requires
     size-of-requires
     cast-t17
     returns
-    same-length
+    (λ c. search needs)
     returns-2)

@@ -10,16 +10,10 @@ returns c =
     let a = c .before .before .args in
     later-uneven (a .n) (a .count) (a .bytes .now) (a .room) (c .if1 .taken)
 
-sub-if2 : tie.Need-sub-if2
-sub-if2 c = search needs
-
 returns-2 : tie.Need-returns-2
 returns-2 c =
     let a = c .before .before .before .args in
     later-many (a .n) (a .count) (a .bytes .now) (a .room) (omega arith) (c .if2 .taken)
-
-size-of-requires : tie.Need-size-of-requires
-size-of-requires c κs = search needs
 
 returns-3 : tie.Need-returns-3
 returns-3 c =
@@ -33,4 +27,4 @@ returns-4 c =
 
 pub judge-later-spec : {M : Type 1} → statement M
 judge-later-spec =
-    tie.close (tie.spec returns sub-if2 returns-2 size-of-requires returns-3 returns-4)
+    tie.close (tie.spec returns (λ c. search needs) returns-2 (λ c κs. search needs) returns-3 returns-4)

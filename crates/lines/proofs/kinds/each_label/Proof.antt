@@ -31,21 +31,6 @@ loop-holds c =
     let a = c .before .args in
     (omega arith, refl, omega arith, sym (over-nil (a .room .now) (a .at)))
 
-cast-put-label : tie.Need-cast-put-label Inv-loop μ-loop
-cast-put-label c = omega arith
-
-element-copy-out-put-label : tie.Need-element-copy-out-put-label Inv-loop μ-loop
-element-copy-out-put-label c = omega arith
-
-put-label-requires : tie.Need-put-label-requires Inv-loop μ-loop
-put-label-requires c κs = search needs
-
-add-bone : tie.Need-add-bone Inv-loop μ-loop
-add-bone c = omega arith
-
-loop-less : tie.Need-loop-less Inv-loop μ-loop
-loop-less c = omega arith
-
 loop-again : tie.Need-loop-again Inv-loop μ-loop
 unfolding heapOf
 loop-again c =
@@ -64,9 +49,6 @@ loop-again c =
           ∙ next-label (s .args .room .now) (at-loop .loop .room) (s .args .at) (at-loop .loop .next) bone (heapOf (s .args .names .now)) (omega arith) (inv .3) (inv .2),
     )
 
-same-length : tie.Need-same-length Inv-loop μ-loop
-same-length c = omega arith
-
 returns : tie.Need-returns Inv-loop μ-loop
 returns c =
     let a = c .before .before .before .args in
@@ -81,11 +63,11 @@ each-label-spec =
     Inv-loop
     μ-loop
     loop-holds
-    cast-put-label
-    element-copy-out-put-label
-    put-label-requires
-    add-bone
-    loop-less
+    (λ c. omega arith)
+    (λ c. omega arith)
+    (λ c κs. search needs)
+    (λ c. omega arith)
+    (λ c. omega arith)
     loop-again
-    same-length
+    (λ c. omega arith)
     returns)

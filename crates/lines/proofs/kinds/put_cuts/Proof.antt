@@ -16,20 +16,11 @@ returns c =
     let cuts = length (a .bytes .now) / entrySize in
     puts-short (a .room .now) (a .at) (cutLines cuts (a .bytes .now)) (omega (arith, c .if1 .taken))
 
-sub-if2 : tie.Need-sub-if2
-sub-if2 c = search needs
-
 returns-2 : tie.Need-returns-2
 returns-2 c =
     let a = c .before .before .before .before .args in
     let cuts = length (a .bytes .now) / entrySize in
     puts-short (a .room .now) (a .at) (cutLines cuts (a .bytes .now)) (omega (arith, length-cuts cuts (a .bytes .now) (omega arith), c .before .if1 .left, c .if2 .taken))
-
-each-cut-requires : tie.Need-each-cut-requires
-each-cut-requires c κs = search needs
-
-same-length : tie.Need-same-length
-same-length c = search needs
 
 returns-3 : tie.Need-returns-3
 returns-3 c =
@@ -41,4 +32,4 @@ returns-3 c =
     puts-whole (a .room .now) (a .at) (cutLines cuts (a .bytes .now)) _ _ (omega (arith, s .before .if1 .left, s .if2 .left)) (omega (arith, call .ensures .0)) (call .ensures .1)
 
 pub put-cuts-spec : {M : Type 1} → statement M
-put-cuts-spec = tie.close (tie.spec returns sub-if2 returns-2 each-cut-requires same-length returns-3)
+put-cuts-spec = tie.close (tie.spec returns (λ c. search needs) returns-2 (λ c κs. search needs) (λ c. search needs) returns-3)

@@ -12,31 +12,16 @@ use Rattle.lines.proofs.WritesLines.{length-labels}
 use Rattle.lines.proofs.kinds.put_labels.Statement.{statement}
 use Rattle.lines.proofs.kinds.put_labels.Tie as tie
 
-bones-of-requires : tie.Need-bones-of-requires
-bones-of-requires c κs = search needs
-
 returns : tie.Need-returns
 returns c =
     let a = c .before .before .before .args in
     puts-short (a .room .now) (a .at) (labelLines (min (a .n) 128) (heapOf (a .names .now))) (omega (arith, c .if1 .taken))
-
-sub-if2 : tie.Need-sub-if2
-sub-if2 c = search needs
-
-mul-if2 : tie.Need-mul-if2
-mul-if2 c = search needs
 
 returns-2 : tie.Need-returns-2
 returns-2 c =
     let a = c .before .before .before .before .args in
     puts-short (a .room .now) (a .at) (labelLines (min (a .n) 128) (heapOf (a .names .now)))
     (omega (arith, length-labels (min (a .n) 128) (heapOf (a .names .now)), c .before .if1 .left, c .if2 .taken, c .before .before .bones-of .ensures))
-
-each-label-requires : tie.Need-each-label-requires
-each-label-requires c κs = search needs
-
-same-length : tie.Need-same-length
-same-length c = search needs
 
 returns-3 : tie.Need-returns-3
 returns-3 c =
@@ -51,4 +36,4 @@ returns-3 c =
     (call .ensures .1 ∙ ap (λ (m : ℕ). over (a .room .now) (a .at) (labelLines m (heapOf (a .names .now)))) few)
 
 pub put-labels-spec : {M : Type 1} → statement M
-put-labels-spec = tie.close (tie.spec bones-of-requires returns sub-if2 mul-if2 returns-2 each-label-requires same-length returns-3)
+put-labels-spec = tie.close (tie.spec (λ c κs. search needs) returns (λ c. search needs) (λ c. search needs) returns-2 (λ c κs. search needs) (λ c. search needs) returns-3)

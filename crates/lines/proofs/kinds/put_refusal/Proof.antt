@@ -8,21 +8,6 @@ use Rattle.placing.proofs.Places.{puts-told}
 use Rattle.lines.proofs.kinds.put_refusal.Statement.{statement}
 use Rattle.lines.proofs.kinds.put_refusal.Tie as tie
 
-high-requires : tie.Need-high-requires
-high-requires c κs = search needs
-
-low-requires : tie.Need-low-requires
-low-requires c κs = search needs
-
-slice-aggregate-put-line : tie.Need-slice-aggregate-put-line
-slice-aggregate-put-line c = search needs
-
-put-line-requires : tie.Need-put-line-requires
-put-line-requires c κs = search needs
-
-same-length : tie.Need-same-length
-same-length c = search needs
-
 returns : tie.Need-returns
 unfolding refusalLine two
 returns c =
@@ -36,9 +21,9 @@ pub put-refusal-spec : {M : Type 1} → statement M
 put-refusal-spec =
     tie.close
     (tie.spec
-    high-requires
-    low-requires
-    slice-aggregate-put-line
-    put-line-requires
-    same-length
+    (λ c κs. search needs)
+    (λ c κs. search needs)
+    (λ c. search needs)
+    (λ c κs. search needs)
+    (λ c. search needs)
     returns)

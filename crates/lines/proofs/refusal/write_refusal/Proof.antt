@@ -17,12 +17,6 @@ returns c =
     writes-short (refusalLine (s .args .number) (s .args .place)) (s .args .text .now)
     (omega (arith, length-refusal (s .args .number) (s .args .place), c .if1 .taken))
 
-put-refusal-requires : tie.Need-put-refusal-requires
-put-refusal-requires c κs = search needs
-
-same-length : tie.Need-same-length
-same-length c = search needs
-
 returns-2 : tie.Need-returns-2
 returns-2 c =
     let call = c .before .before .put-refusal in
@@ -34,4 +28,4 @@ returns-2 c =
 
 pub write-refusal-spec : {M : Type 1} → statement M
 write-refusal-spec =
-    tie.close (tie.spec returns put-refusal-requires same-length returns-2)
+    tie.close (tie.spec returns (λ c κs. search needs) (λ c. search needs) returns-2)

@@ -9,18 +9,6 @@ use borrow.Author.Needs.{needs}
 use Rattle.pairs.proofs.side.across.Statement.{statement}
 use Rattle.pairs.proofs.side.across.Tie as tie
 
-element-copy-out-if1 : tie.Need-element-copy-out-if1
-element-copy-out-if1 c = search needs
-
-in-side-requires : tie.Need-in-side-requires
-in-side-requires c κs = search needs
-
-tally-at-requires : tie.Need-tally-at-requires
-tally-at-requires c κs = search needs
-
-cast-result : tie.Need-cast-result
-cast-result c = search needs
-
 returns : tie.Need-returns
 unfolding heapOf
 returns c =
@@ -44,10 +32,10 @@ pub across-spec : {M : Type 1} → statement M
 across-spec =
     tie.close
     (tie.spec
-    element-copy-out-if1
-    in-side-requires
-    tally-at-requires
-    cast-result
+    (λ c. search needs)
+    (λ c κs. search needs)
+    (λ c κs. search needs)
+    (λ c. search needs)
     returns
     returns-2
     returns-3)

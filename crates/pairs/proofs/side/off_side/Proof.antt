@@ -20,21 +20,6 @@ Inv-loop table names n name side i total₀ j₀ total j =
 abbrev μ-loop : tie.MeasureT-loop
 μ-loop table names n name side i total₀ j₀ total j = n - j
 
-loop-holds : tie.Need-loop-holds Inv-loop μ-loop
-loop-holds c = (zero-le, sym (offSide-none _ _ _ _), zero-le)
-
-across-requires : tie.Need-across-requires Inv-loop μ-loop
-across-requires c κs = omega arith
-
-add-total : tie.Need-add-total Inv-loop μ-loop
-add-total c = omega (arith, c .across .ensures .1)
-
-add-j : tie.Need-add-j Inv-loop μ-loop
-add-j c = omega arith
-
-loop-less : tie.Need-loop-less Inv-loop μ-loop
-loop-less c = omega arith
-
 loop-again : tie.Need-loop-again Inv-loop μ-loop
 loop-again c =
     let a = c .before .before .before .args in
@@ -61,10 +46,10 @@ off-side-spec =
     (tie.spec
     Inv-loop
     μ-loop
-    loop-holds
-    across-requires
-    add-total
-    add-j
-    loop-less
+    (λ c. (zero-le, sym (offSide-none _ _ _ _), zero-le))
+    (λ c κs. omega arith)
+    (λ c. omega (arith, c .across .ensures .1))
+    (λ c. omega arith)
+    (λ c. omega arith)
     loop-again
     returns)

@@ -10,15 +10,6 @@ use borrow.Author.Needs.{needs}
 use Rattle.pairs.proofs.side.row.Statement.{statement}
 use Rattle.pairs.proofs.side.row.Tie as tie
 
-element-copy-out-if1 : tie.Need-element-copy-out-if1
-element-copy-out-if1 c = search needs
-
-in-side-requires : tie.Need-in-side-requires
-in-side-requires c κs = search needs
-
-off-side-requires : tie.Need-off-side-requires
-off-side-requires c κs = search needs
-
 returns : tie.Need-returns
 unfolding rowOf heapOf
 returns c =
@@ -45,4 +36,4 @@ returns-3 c =
 pub row-spec : {M : Type 1} → statement M
 row-spec =
     tie.close
-    (tie.spec element-copy-out-if1 in-side-requires off-side-requires returns returns-2 returns-3)
+    (tie.spec (λ c. search needs) (λ c κs. search needs) (λ c κs. search needs) returns returns-2 returns-3)

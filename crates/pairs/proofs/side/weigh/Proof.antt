@@ -21,24 +21,6 @@ Inv-loop table names n name side bones total₀ i₀ total i =
 abbrev μ-loop : tie.MeasureT-loop
 μ-loop table names n name side bones total₀ i₀ total i = bones - i
 
-at-most-128-requires : tie.Need-at-most-128-requires Inv-loop μ-loop
-at-most-128-requires c κs = search needs
-
-loop-holds : tie.Need-loop-holds Inv-loop μ-loop
-loop-holds c = (zero-le, sym (rows-none _ _ _ _), zero-le)
-
-row-requires : tie.Need-row-requires Inv-loop μ-loop
-row-requires c κs = omega arith
-
-add-total : tie.Need-add-total Inv-loop μ-loop
-add-total c = omega (arith, c .row .ensures .1)
-
-add-i : tie.Need-add-i Inv-loop μ-loop
-add-i c = omega arith
-
-loop-less : tie.Need-loop-less Inv-loop μ-loop
-loop-less c = omega arith
-
 loop-again : tie.Need-loop-again Inv-loop μ-loop
 loop-again c =
     let head = c .before .before .loop in (
@@ -64,11 +46,11 @@ weigh-spec =
     (tie.spec
     Inv-loop
     μ-loop
-    at-most-128-requires
-    loop-holds
-    row-requires
-    add-total
-    add-i
-    loop-less
+    (λ c κs. search needs)
+    (λ c. (zero-le, sym (rows-none _ _ _ _), zero-le))
+    (λ c κs. omega arith)
+    (λ c. omega (arith, c .row .ensures .1))
+    (λ c. omega arith)
+    (λ c. omega arith)
     loop-again
     returns)

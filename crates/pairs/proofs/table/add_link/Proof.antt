@@ -5,9 +5,6 @@ use Rattle.pairs.specs.Table.{added}
 use Rattle.pairs.proofs.table.add_link.Statement.{statement}
 use Rattle.pairs.proofs.table.add_link.Tie as tie
 
-raise-between-requires : tie.Need-raise-between-requires
-raise-between-requires c κs = search needs
-
 returns : tie.Need-returns
 unfolding added
 returns c =
@@ -15,4 +12,4 @@ returns c =
     rw (mod-eq-of-lt (ends .0), mod-eq-of-lt (ends .1)) at (c .raise-between .ensures .0)
 
 pub add-link-spec : {M : Type 1} → statement M
-add-link-spec = tie.close (tie.spec raise-between-requires returns)
+add-link-spec = tie.close (tie.spec (λ c κs. search needs) returns)

@@ -27,12 +27,6 @@ Inv-loop links table₀ count i₀ table i =
 abbrev μ-loop : tie.MeasureT-loop
 μ-loop links table₀ count i₀ table i = length links / 4 - i
 
-loop-holds : tie.Need-loop-holds Inv-loop μ-loop
-loop-holds c = (zero-le, c .before .pre, refl)
-
-link-at-requires : tie.Need-link-at-requires Inv-loop μ-loop
-link-at-requires c κs = search needs
-
 add-link-requires : tie.Need-add-link-requires Inv-loop μ-loop
 add-link-requires c κs =
     let a = c .before .before .before .before .before .args in
@@ -41,12 +35,6 @@ add-link-requires c κs =
     link-accepted 128 (head .i) _
     (links-here 128 (head .i) _ _ (linksOf-read (now (a .links)) (head .i) _ (omega arith) (c .before .link-at .ensures)) (head .inv .1)) in
     (proper .first-end, proper .second-end)
-
-add-i : tie.Need-add-i Inv-loop μ-loop
-add-i c = omega arith
-
-loop-less : tie.Need-loop-less Inv-loop μ-loop
-loop-less c = omega arith
 
 loop-again : tie.Need-loop-again Inv-loop μ-loop
 loop-again c =
@@ -72,10 +60,10 @@ add-links-spec =
     (tie.spec
     Inv-loop
     μ-loop
-    loop-holds
-    link-at-requires
+    (λ c. (zero-le, c .before .pre, refl))
+    (λ c κs. search needs)
     add-link-requires
-    add-i
-    loop-less
+    (λ c. omega arith)
+    (λ c. omega arith)
     loop-again
     returns)

@@ -6,21 +6,12 @@ use borrow.Author.Needs.{needs}
 use Rattle.pairs.proofs.table.fill.Statement.{statement}
 use Rattle.pairs.proofs.table.fill.Tie as tie
 
-judge-requires : tie.Need-judge-requires
-judge-requires c κs = search needs
-
-enum-told : tie.Need-enum-told
-enum-told c = search needs
-
 add-links-requires : tie.Need-add-links-requires
 add-links-requires c κs =
     let a = c .before .before .before .before .before .args in
     let accepted = sym (c .before .before .before .judge .ensures) ∙ c .before .enum-told .given .1 in
     links-proper 128 0 _
     (propers-more (a .n) 128 _ (table-counted (a .n) (a .k) _ _ accepted .few-bones) (table-proper (a .n) (a .k) _ _ accepted))
-
-enum-known-number : tie.Need-enum-known-number
-enum-known-number c = search needs
 
 returns : tie.Need-returns
 unfolding filled
@@ -33,4 +24,4 @@ returns-2 c = (sym (c .before .number .given .1) ∙ c .before .before .before .
 pub fill-spec : {M : Type 1} → statement M
 fill-spec =
     tie.close
-    (tie.spec judge-requires enum-told add-links-requires enum-known-number returns returns-2)
+    (tie.spec (λ c κs. search needs) (λ c. search needs) add-links-requires (λ c. search needs) returns returns-2)

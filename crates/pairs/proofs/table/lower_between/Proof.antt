@@ -7,21 +7,6 @@ use borrow.Author.Needs.{needs}
 use Rattle.pairs.proofs.table.lower_between.Statement.{statement}
 use Rattle.pairs.proofs.table.lower_between.Tie as tie
 
-tally-of-requires : tie.Need-tally-of-requires
-tally-of-requires c κs = search needs
-
-spot-of-requires : tie.Need-spot-of-requires
-spot-of-requires c κs = search needs
-
-wrapping-sub-u32-requires : tie.Need-wrapping-sub-u32-requires
-wrapping-sub-u32-requires c κs = search needs
-
-mul-table : tie.Need-mul-table
-mul-table c = search needs
-
-element-write-table : tie.Need-element-write-table
-element-write-table c = search needs
-
 -- what gives x with b added, the carry lost
 less : (r b x : ℕ) → r < 2 ^ 32 → b < 2 ^ 32 → (r + b) % 2 ^ 32 ≡ x → r ≡ (x + (2 ^ 32 - b)) % 2 ^ 32
 less r b x hr hb e = omega arith
@@ -37,9 +22,9 @@ pub lower-between-spec : {M : Type 1} → statement M
 lower-between-spec =
     tie.close
     (tie.spec
-    tally-of-requires
-    spot-of-requires
-    wrapping-sub-u32-requires
-    mul-table
-    element-write-table
+    (λ c κs. search needs)
+    (λ c κs. search needs)
+    (λ c κs. search needs)
+    (λ c. search needs)
+    (λ c. search needs)
     returns)

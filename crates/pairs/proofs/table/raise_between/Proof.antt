@@ -4,21 +4,6 @@ use borrow.Author.Needs.{needs}
 use Rattle.pairs.proofs.table.raise_between.Statement.{statement}
 use Rattle.pairs.proofs.table.raise_between.Tie as tie
 
-tally-of-requires : tie.Need-tally-of-requires
-tally-of-requires c κs = search needs
-
-spot-of-requires : tie.Need-spot-of-requires
-spot-of-requires c κs = search needs
-
-wrapping-add-u32-requires : tie.Need-wrapping-add-u32-requires
-wrapping-add-u32-requires c κs = search needs
-
-mul-table : tie.Need-mul-table
-mul-table c = search needs
-
-element-write-table : tie.Need-element-write-table
-element-write-table c = search needs
-
 returns : tie.Need-returns
 unfolding raised held
 returns c =
@@ -29,9 +14,9 @@ pub raise-between-spec : {M : Type 1} → statement M
 raise-between-spec =
     tie.close
     (tie.spec
-    tally-of-requires
-    spot-of-requires
-    wrapping-add-u32-requires
-    mul-table
-    element-write-table
+    (λ c κs. search needs)
+    (λ c κs. search needs)
+    (λ c κs. search needs)
+    (λ c. search needs)
+    (λ c. search needs)
     returns)

@@ -11,9 +11,6 @@ use Rattle.placing.proofs.Places.{puts-short, puts-whole}
 use Rattle.placing.proofs.write.put_line.Statement.{statement}
 use Rattle.placing.proofs.write.put_line.Tie as tie
 
-too-short-requires : tie.Need-too-short-requires
-too-short-requires c κs = search needs
-
 returns : tie.Need-returns
 returns c =
     let a = c .before .before .before .before .args in
@@ -24,9 +21,6 @@ returns c =
 
 write-line-requires : tie.Need-write-line-requires
 write-line-requires c κs = ltb-false _ _ (sym (c .before .before .too-short .ensures) ∙ c .before .if1 .left)
-
-same-length : tie.Need-same-length
-same-length c = search needs
 
 returns-2 : tie.Need-returns-2
 returns-2 c =
@@ -42,4 +36,4 @@ returns-2 c =
     (call .ensures .1)
 
 pub put-line-spec : {M : Type 1} → statement M
-put-line-spec = tie.close (tie.spec too-short-requires returns write-line-requires same-length returns-2)
+put-line-spec = tie.close (tie.spec (λ c κs. search needs) returns write-line-requires (λ c. search needs) returns-2)

@@ -11,39 +11,6 @@ use Rattle.placing.proofs.Writes.{length-line, negated, line-made}
 use Rattle.placing.proofs.write.write_line.Statement.{statement}
 use Rattle.placing.proofs.write.write_line.Tie as tie
 
-put-byte-requires : tie.Need-put-byte-requires
-put-byte-requires c κs = search needs
-
-add-put-bytes : tie.Need-add-put-bytes
-add-put-bytes c = search needs
-
-put-bytes-requires : tie.Need-put-bytes-requires
-put-bytes-requires c κs = search needs
-
-add-end : tie.Need-add-end
-add-end c = search needs
-
-mul-end : tie.Need-mul-end
-mul-end c = search needs
-
-add-end-2 : tie.Need-add-end-2
-add-end-2 c = search needs
-
-wrapping-sub-u8-requires : tie.Need-wrapping-sub-u8-requires
-wrapping-sub-u8-requires c κs = search needs
-
-put-byte-requires-2 : tie.Need-put-byte-requires-2
-put-byte-requires-2 c κs = search needs
-
-add-room : tie.Need-add-room
-add-room c = search needs
-
-slice-write-room : tie.Need-slice-write-room
-slice-write-room c = search needs
-
-add-result : tie.Need-add-result
-add-result c = search needs
-
 same-length : tie.Need-same-length
 same-length c =
     length-set (c .before .before .put-byte2 .last .0) _ 10
@@ -69,16 +36,16 @@ pub write-line-spec : {M : Type 1} → statement M
 write-line-spec =
     tie.close
     (tie.spec
-    put-byte-requires
-    add-put-bytes
-    put-bytes-requires
-    add-end
-    mul-end
-    add-end-2
-    wrapping-sub-u8-requires
-    put-byte-requires-2
-    add-room
-    slice-write-room
-    add-result
+    (λ c κs. search needs)
+    (λ c. search needs)
+    (λ c κs. search needs)
+    (λ c. search needs)
+    (λ c. search needs)
+    (λ c. search needs)
+    (λ c κs. search needs)
+    (λ c κs. search needs)
+    (λ c. search needs)
+    (λ c. search needs)
+    (λ c. search needs)
     same-length
     returns)

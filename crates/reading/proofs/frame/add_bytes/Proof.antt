@@ -14,44 +14,11 @@ Inv-loop text at size sum₀ bad₀ i₀ sum bad i = (i ≤ size) × Adding (dro
 abbrev μ-loop : tie.MeasureT-loop
 μ-loop text at size sum₀ bad₀ i₀ sum bad i = size - i
 
-loop-holds : tie.Need-loop-holds Inv-loop μ-loop
-loop-holds c = (omega arith, adding-none _ _)
-
-mul-from : tie.Need-mul-from Inv-loop μ-loop
-mul-from c = search needs
-
-add-from : tie.Need-add-from Inv-loop μ-loop
-add-from c = search needs
-
-shared-slice-read-pair : tie.Need-shared-slice-read-pair Inv-loop μ-loop
-shared-slice-read-pair c = search needs
-
-add-pair : tie.Need-add-pair Inv-loop μ-loop
-add-pair c = search needs
-
-shared-slice-read-pair-2 : tie.Need-shared-slice-read-pair-2 Inv-loop μ-loop
-shared-slice-read-pair-2 c = search needs
-
-pair-requires : tie.Need-pair-requires Inv-loop μ-loop
-pair-requires c κs = search needs
-
 add-bad : tie.Need-add-bad Inv-loop μ-loop
 add-bad c =
     let l = c .before .before .before .before in
     let a = l .before .before .args in
     omega (arith, l .loop .inv .1 .few, pair-bound (getD (a .text .now) (a .at + 2 * l .loop .i) 0) (getD (a .text .now) (a .at + 2 * l .loop .i + 1) 0))
-
-cast-add-byte : tie.Need-cast-add-byte Inv-loop μ-loop
-cast-add-byte c = search needs
-
-add-byte-requires : tie.Need-add-byte-requires Inv-loop μ-loop
-add-byte-requires c κs = search needs
-
-add-i : tie.Need-add-i Inv-loop μ-loop
-add-i c = search needs
-
-loop-less : tie.Need-loop-less Inv-loop μ-loop
-loop-less c = search needs
 
 loop-again : tie.Need-loop-again Inv-loop μ-loop
 loop-again c =
@@ -61,9 +28,6 @@ loop-again c =
       adding-more (a .text .now) (a .at) (a .size) (l .loop .i) (l .loop .sum) (l .loop .bad) (c .before .pair .result) _
           (omega arith) (omega arith) (l .loop .inv .1) (c .before .pair .ensures) (c .add-byte .ensures),
     )
-
-wide-requires : tie.Need-wide-requires Inv-loop μ-loop
-wide-requires c κs = search needs
 
 returns : tie.Need-returns Inv-loop μ-loop
 returns c =
@@ -81,19 +45,19 @@ add-bytes-spec =
     (tie.spec
     Inv-loop
     μ-loop
-    loop-holds
-    mul-from
-    add-from
-    shared-slice-read-pair
-    add-pair
-    shared-slice-read-pair-2
-    pair-requires
+    (λ c. (omega arith, adding-none _ _))
+    (λ c. search needs)
+    (λ c. search needs)
+    (λ c. search needs)
+    (λ c. search needs)
+    (λ c. search needs)
+    (λ c κs. search needs)
     add-bad
-    cast-add-byte
-    add-byte-requires
-    add-i
-    loop-less
+    (λ c. search needs)
+    (λ c κs. search needs)
+    (λ c. search needs)
+    (λ c. search needs)
     loop-again
-    wide-requires
+    (λ c κs. search needs)
     returns
     returns-2)

@@ -6,12 +6,6 @@ use Rattle.reading.proofs.Walks.{no-frame, no-digits, frame-well, frame
 use Rattle.reading.proofs.frame.frame_at.Statement.{statement}
 use Rattle.reading.proofs.frame.frame_at.Tie as tie
 
-size-at-requires : tie.Need-size-at-requires
-size-at-requires c κs = search needs
-
-returns : tie.Need-returns
-returns c = no-frame _ (c .before .size-at .ensures .none (c .if1 .taken))
-
 sum-at-requires : tie.Need-sum-at-requires
 sum-at-requires c κs = let a = c .before .before .before .args in omega (arith, length-drop (a .at) (a .text .now))
 
@@ -33,4 +27,4 @@ returns-3 c =
     frame-found (drop (a .at) (a .text .now)) (size .result) (c .kind-at .result) (sum .result) (omega arith) (size .ensures) (sum .ensures) (omega arith) (c .kind-at .ensures)
 
 pub frame-at-spec : {M : Type 1} → statement M
-frame-at-spec = tie.close (tie.spec size-at-requires returns sum-at-requires returns-2 kind-at-requires returns-3)
+frame-at-spec = tie.close (tie.spec (λ c κs. search needs) (λ c. no-frame _ (c .before .size-at .ensures .none (c .if1 .taken))) sum-at-requires returns-2 kind-at-requires returns-3)

@@ -15,9 +15,6 @@ add-kind-of c = let s = c .before .before in let a = s .args in omega (arith, we
 shared-slice-read-kind-of-2 : tie.Need-shared-slice-read-kind-of-2
 shared-slice-read-kind-of-2 c = let s = c .before .before .before in let a = s .args in omega (arith, well-room (a .text .now) (a .at) (s .pre), size-least (drop (a .at) (a .text .now)))
 
-kind-of-requires : tie.Need-kind-of-requires
-kind-of-requires c κs = search needs
-
 returns : tie.Need-returns
 returns c = let s = c .before .before .before .before in let a = s .args in kind-front (a .text .now) (a .at) (c .kind-of .result) (c .kind-of .ensures) (s .pre)
 
@@ -28,5 +25,5 @@ kind-at-spec =
     shared-slice-read-kind-of
     add-kind-of
     shared-slice-read-kind-of-2
-    kind-of-requires
+    (λ c κs. search needs)
     returns)

@@ -9,50 +9,17 @@ use Rattle.reading.proofs.Walks.{no-size, size-least, kind-well, size-f
 use Rattle.reading.proofs.frame.size_at.Statement.{statement}
 use Rattle.reading.proofs.frame.size_at.Tie as tie
 
-sub-if1 : tie.Need-sub-if1
-sub-if1 c = search needs
-
 returns : tie.Need-returns
 returns c =
     let a = c .before .before .args in
     let cs = drop (a .at) (a .text .now) in
     no-size cs (λ w. omega (arith, w .room, size-least cs, length-drop (a .at) (a .text .now)))
 
-shared-slice-read-kind-of : tie.Need-shared-slice-read-kind-of
-shared-slice-read-kind-of c = search needs
-
-add-kind-of : tie.Need-add-kind-of
-add-kind-of c = search needs
-
-shared-slice-read-kind-of-2 : tie.Need-shared-slice-read-kind-of-2
-shared-slice-read-kind-of-2 c = search needs
-
-kind-of-requires : tie.Need-kind-of-requires
-kind-of-requires c κs = search needs
-
 returns-2 : tie.Need-returns-2
 returns-2 c =
     let a = c .before .before .before .before .before .before .args in
     let k = c .before .kind-of in
     no-size (drop (a .at) (a .text .now)) (λ w. omega (arith, kind-well (a .text .now) (a .at) (k .result) (k .ensures) w))
-
-payload-requires : tie.Need-payload-requires
-payload-requires c κs = search needs
-
-add-size : tie.Need-add-size
-add-size c = omega (arith, payload-most (c .before .before .kind-of .result))
-
-sub-feed-at : tie.Need-sub-feed-at
-sub-feed-at c = search needs
-
-part-feed-at-start : tie.Need-part-feed-at-start
-part-feed-at-start c = search needs
-
-part-feed-at-end : tie.Need-part-feed-at-end
-part-feed-at-end c = search needs
-
-feed-at-requires : tie.Need-feed-at-requires
-feed-at-requires c κs = search needs
 
 returns-3 : tie.Need-returns-3
 returns-3 c =
@@ -72,18 +39,18 @@ pub size-at-spec : {M : Type 1} → statement M
 size-at-spec =
     tie.close
     (tie.spec
-    sub-if1
+    (λ c. search needs)
     returns
-    shared-slice-read-kind-of
-    add-kind-of
-    shared-slice-read-kind-of-2
-    kind-of-requires
+    (λ c. search needs)
+    (λ c. search needs)
+    (λ c. search needs)
+    (λ c κs. search needs)
     returns-2
-    payload-requires
-    add-size
-    sub-feed-at
-    part-feed-at-start
-    part-feed-at-end
-    feed-at-requires
+    (λ c κs. search needs)
+    (λ c. omega (arith, payload-most (c .before .before .kind-of .result)))
+    (λ c. search needs)
+    (λ c. search needs)
+    (λ c. search needs)
+    (λ c κs. search needs)
     returns-3
     returns-4)

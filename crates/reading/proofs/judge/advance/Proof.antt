@@ -5,9 +5,6 @@ use Rattle.reading.proofs.Advances.{go-head, go-on, head-digits, head-r
 use Rattle.reading.proofs.judge.advance.Statement.{statement}
 use Rattle.reading.proofs.judge.advance.Tie as tie
 
-step-requires : tie.Need-step-requires
-step-requires c κs = search needs
-
 byte-at-requires : tie.Need-byte-at-requires
 byte-at-requires c κs =
     let s = c .before .before .before in
@@ -39,4 +36,4 @@ returns-2 c =
     go-on (a .text .now) (a .s) (c .before .step .result) (a .f) (s .pre) (c .before .step .ensures) (c .if1 .left)
 
 pub advance-spec : {M : Type 1} → statement M
-advance-spec = tie.close (tie.spec step-requires byte-at-requires number-at-requires returns returns-2)
+advance-spec = tie.close (tie.spec (λ c κs. search needs) byte-at-requires number-at-requires returns returns-2)

@@ -9,15 +9,6 @@ use Rattle.reading.proofs.judge.judge.Tie as tie
 returns : tie.Need-returns
 returns c = let a = c .before .before .args in by-15 (a .text .now) (a .lent) (a .room) (omega arith)
 
-judge-lines-requires : tie.Need-judge-lines-requires
-judge-lines-requires c κs = search needs
-
-enum-known-found : tie.Need-enum-known-found
-enum-known-found c = search needs
-
-enum-known-found-2 : tie.Need-enum-known-found-2
-enum-known-found-2 c = search needs
-
 returns-2 : tie.Need-returns-2
 returns-2 c =
     let f = c .before .before in
@@ -32,21 +23,12 @@ returns-3 c =
     let e = sym (f .found2 .given .1) ∙ f .before .before .judge-lines .ensures in
     by-9 (a .text .now) (a .lent) (a .room) (omega arith) _ _ _ _ e (omega arith) (omega arith)
 
-cast-if4 : tie.Need-cast-if4
-cast-if4 c = search needs
-
 returns-4 : tie.Need-returns-4
 returns-4 c =
     let f = c .before .before .before .before in
     let a = f .before .before .before .before .before .args in
     let e = sym (f .found2 .given .1) ∙ f .before .before .judge-lines .ensures in
     by-14 (a .text .now) (a .lent) (a .room) (omega arith) _ _ _ _ e (omega arith) (omega arith) (omega arith)
-
-cast-if5 : tie.Need-cast-if5
-cast-if5 c = search needs
-
-mul-if5 : tie.Need-mul-if5
-mul-if5 c = search needs
 
 returns-5 : tie.Need-returns-5
 returns-5 c =
@@ -72,15 +54,15 @@ judge-spec =
     tie.close
     (tie.spec
     returns
-    judge-lines-requires
-    enum-known-found
-    enum-known-found-2
+    (λ c κs. search needs)
+    (λ c. search needs)
+    (λ c. search needs)
     returns-2
     returns-3
-    cast-if4
+    (λ c. search needs)
     returns-4
-    cast-if5
-    mul-if5
+    (λ c. search needs)
+    (λ c. search needs)
     returns-5
     returns-6
     returns-7)

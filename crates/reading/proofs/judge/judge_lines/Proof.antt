@@ -19,15 +19,6 @@ Inv-loop text s₀ s = Small text s × (read (first (lineRows Opening 0 (linesOf
 abbrev μ-loop : tie.MeasureT-loop
 μ-loop text s₀ s = length text - s .at
 
-loop-holds : tie.Need-loop-holds Inv-loop μ-loop
-loop-holds c = (omega arith, read-start _)
-
-frame-at-requires : tie.Need-frame-at-requires Inv-loop μ-loop
-frame-at-requires c κs = search needs
-
-line-row-requires : tie.Need-line-row-requires Inv-loop μ-loop
-line-row-requires c κs = (omega arith, c .frame-at .ensures)
-
 returns : tie.Need-returns Inv-loop μ-loop
 returns c =
     let l = c .before .before .before .before .before in
@@ -42,18 +33,12 @@ advance-requires c κs =
     let s = l .loop .s in
     ready text s (c .before .before .frame-at .result) (c .before .line-row .result) (l .loop .inv .0) (c .before .before .frame-at .ensures) (c .before .line-row .ensures) (omega arith)
 
-loop-less : tie.Need-loop-less Inv-loop μ-loop
-loop-less c = omega arith
-
 loop-again : tie.Need-loop-again Inv-loop μ-loop
 loop-again c =
     let l = c .before .before .before .before .before .before in
     let text = l .before .before .args .text .now in
     let s = l .loop .s in
     (c .advance .ensures .small, l .loop .inv .1 ∙ c .advance .ensures .same)
-
-is-open-requires : tie.Need-is-open-requires Inv-loop μ-loop
-is-open-requires c κs = search needs
 
 returns-2 : tie.Need-returns-2 Inv-loop μ-loop
 returns-2 c =
@@ -75,13 +60,13 @@ judge-lines-spec =
     (tie.spec
     Inv-loop
     μ-loop
-    loop-holds
-    frame-at-requires
-    line-row-requires
+    (λ c. (omega arith, read-start _))
+    (λ c κs. search needs)
+    (λ c κs. (omega arith, c .frame-at .ensures))
     returns
     advance-requires
-    loop-less
+    (λ c. omega arith)
     loop-again
-    is-open-requires
+    (λ c κs. search needs)
     returns-2
     returns-3)

@@ -29,9 +29,6 @@ returns-2 c =
     line-refused cs (a .stage) (a .line) 17 (omega arith)
     (row-17 cs (f .well some) (a .stage) (a .line) (λ e. omega (arith, f .sum some)))
 
-may-follow-requires : tie.Need-may-follow-requires
-may-follow-requires c κs = search needs
-
 returns-3 : tie.Need-returns-3
 returns-3 c =
     let s = c .before .before .before .before .before .before .before in
@@ -53,9 +50,6 @@ number-at-requires c κs =
     let w = f .well some in
     let e = size-of cs 6 (sym (f .kind some) ∙ c .if4 .taken) in
     (omega (arith, well-room (a .text .now) (a .at) w), well-digits cs w 1 (omega arith), well-digits cs w 2 (omega arith))
-
-cast-if5 : tie.Need-cast-if5
-cast-if5 c = search needs
 
 returns-4 : tie.Need-returns-4
 returns-4 c =
@@ -97,10 +91,10 @@ line-row-spec =
     (tie.spec
     returns
     returns-2
-    may-follow-requires
+    (λ c κs. search needs)
     returns-3
     number-at-requires
-    cast-if5
+    (λ c. search needs)
     returns-4
     returns-5
     returns-6)

@@ -7,12 +7,6 @@ use Rattle.reading.proofs.Walks.{size-of, well-room}
 use Rattle.reading.proofs.store.line_after.Statement.{statement}
 use Rattle.reading.proofs.store.line_after.Tie as tie
 
-kind-at-requires : tie.Need-kind-at-requires
-kind-at-requires c κs = c .before .pre
-
-payload-requires : tie.Need-payload-requires
-payload-requires c κs = search needs
-
 add-result : tie.Need-add-result
 add-result c =
     let s = c .before .before .before in
@@ -52,8 +46,8 @@ pub line-after-spec : {M : Type 1} → statement M
 line-after-spec =
     tie.close
     (tie.spec
-    kind-at-requires
-    payload-requires
+    (λ c κs. c .before .pre)
+    (λ c κs. search needs)
     add-result
     mul-result
     add-result-2

@@ -8,22 +8,13 @@ use borrow.Author.Needs.{needs}
 use Rattle.replay.proofs.judging.astray.Statement.{statement}
 use Rattle.replay.proofs.judging.astray.Tie as tie
 
-moves-requires : tie.Need-moves-requires
-moves-requires c κs = search needs
-
 returns : tie.Need-returns
 returns c = astray-none _ _ _ _ (sym (c .before .moves .ensures) ∙ not-true _ (c .if1 .taken))
-
-in-side-requires : tie.Need-in-side-requires
-in-side-requires c κs = search needs
 
 returns-2 : tie.Need-returns-2
 returns-2 c =
     let a = c .before .before .before .before .args in
     astray-least _ _ _ _ (sym (c .before .before .before .moves .ensures) ∙ not-false _ (c .before .before .if1 .left)) (sym (on-side (a .side .now) (a .name) (omega arith) (c .before .in-side .ensures)) ∙ c .if2 .taken)
-
-strays-requires : tie.Need-strays-requires
-strays-requires c κs = search needs
 
 returns-3 : tie.Need-returns-3
 returns-3 c =
@@ -35,4 +26,4 @@ returns-3 c =
 pub astray-spec : {M : Type 1} → statement M
 astray-spec =
     tie.close
-    (tie.spec moves-requires returns in-side-requires returns-2 strays-requires returns-3)
+    (tie.spec (λ c κs. search needs) returns (λ c κs. search needs) returns-2 (λ c κs. search needs) returns-3)

@@ -15,9 +15,6 @@ use borrow.Author.Needs.{needs}
 use Rattle.replay.proofs.judging.judge_entry.Statement.{statement}
 use Rattle.replay.proofs.judging.judge_entry.Tie as tie
 
-stands-requires : tie.Need-stands-requires
-stands-requires c κs = search needs
-
 returns : tie.Need-returns
 unfolding cutOf
 returns c = entry-ten _ _ _ _ _ _ (sym (c .before .stands .ensures) ∙ not-true _ (c .if1 .taken))
@@ -45,21 +42,12 @@ unfolding cutOf
 returns-2 c =
     entry-eleven _ _ _ _ _ _ (stood (c .before .before .before .before)) (sym (c .before .astray .ensures) ∙ c .if2 .taken)
 
-cast-if3 : tie.Need-cast-if3
-cast-if3 c = search needs
-
-weigh-requires : tie.Need-weigh-requires
-weigh-requires c κs = search needs
-
 returns-3 : tie.Need-returns-3
 unfolding cutOf
 returns-3 c =
     let s = c .before .before .before .before .before .before .before .before .before .before in
     entry-twelve _ _ _ _ _ _ (stood (c .before .before .before .before .before .before .before .before)) (sound (c .before .before .before .before))
     (λ e. c .if3 .taken (e ∙ sym (weighed (s .args .n) _ _ _ _ (s .pre) (c .before .weigh .ensures))))
-
-cast-if4 : tie.Need-cast-if4
-cast-if4 c = search needs
 
 returns-4 : tie.Need-returns-4
 unfolding cutOf
@@ -77,13 +65,13 @@ pub judge-entry-spec : {M : Type 1} → statement M
 judge-entry-spec =
     tie.close
     (tie.spec
-    stands-requires
+    (λ c κs. search needs)
     returns
     astray-requires
     returns-2
-    cast-if3
-    weigh-requires
+    (λ c. search needs)
+    (λ c κs. search needs)
     returns-3
-    cast-if4
+    (λ c. search needs)
     returns-4
     returns-5)

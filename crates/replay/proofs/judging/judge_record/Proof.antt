@@ -16,18 +16,9 @@ use borrow.Author.Needs.{needs}
 use Rattle.replay.proofs.judging.judge_record.Statement.{statement}
 use Rattle.replay.proofs.judging.judge_record.Tie as tie
 
-lesser-requires : tie.Need-lesser-requires
-lesser-requires c κs = search needs
-
 returns : tie.Need-returns
 unfolding settled
 returns c = (record-broken _ _ _ _ (c .if1 .taken), refl)
-
-less-requires : tie.Need-less-requires
-less-requires c κs = search needs
-
-within-requires : tie.Need-within-requires
-within-requires c κs = search needs
 
 returns-2 : tie.Need-returns-2
 unfolding settled
@@ -39,12 +30,6 @@ returns-2 c =
 replay-requires : tie.Need-replay-requires
 replay-requires c κs =
     (omega (arith, c .before .before .before .before .before .before .lesser .ensures), refl, omega (arith, c .before .if2 .left, c .before .before .before .within .ensures, c .before .before .before .before .less .ensures, c .before .before .before .before .before .before .lesser .ensures))
-
-enum-told : tie.Need-enum-told
-enum-told c = search needs
-
-enum-known-number : tie.Need-enum-known-number
-enum-known-number c = search needs
 
 -- the rows of the entries are the record's
 judged : (c : tie.After-replay) → let a = c .before .before .before .before .before .before .before .before .before .args in c .replay .result ≡ first (recordRows (min (a .n) 128) (held (a .table .now)) (a .k) (a .entries .now))
@@ -73,13 +58,13 @@ pub judge-record-spec : {M : Type 1} → statement M
 judge-record-spec =
     tie.close
     (tie.spec
-    lesser-requires
+    (λ c κs. search needs)
     returns
-    less-requires
-    within-requires
+    (λ c κs. search needs)
+    (λ c κs. search needs)
     returns-2
     replay-requires
-    enum-told
-    enum-known-number
+    (λ c. search needs)
+    (λ c. search needs)
     returns-3
     returns-4)

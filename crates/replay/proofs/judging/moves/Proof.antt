@@ -20,23 +20,11 @@ Inv-loop side b₀ b = (b ≤ 128) × ((x : ℕ) → x < b → T (not (sideOf si
 abbrev μ-loop : tie.MeasureT-loop
 μ-loop side b₀ b = 128 - b
 
-loop-holds : tie.Need-loop-holds Inv-loop μ-loop
-loop-holds c = (zero-le, λ x l. absurd (not-suc-le-zero l))
-
-in-side-requires : tie.Need-in-side-requires Inv-loop μ-loop
-in-side-requires c κs = search needs
-
 returns : tie.Need-returns Inv-loop μ-loop
 returns c =
     let side = c .before .before .before .before .args .side .now in
     let b = c .before .before .before .loop .b in
     sym (some-here 128 (sideOf side) b (omega arith) (holds (sym (on-side side b (omega arith) (c .before .in-side .ensures)) ∙ c .if1 .taken)))
-
-add-b : tie.Need-add-b Inv-loop μ-loop
-add-b c = omega arith
-
-loop-less : tie.Need-loop-less Inv-loop μ-loop
-loop-less c = omega arith
 
 loop-again : tie.Need-loop-again Inv-loop μ-loop
 loop-again c =
@@ -54,10 +42,10 @@ moves-spec =
     (tie.spec
     Inv-loop
     μ-loop
-    loop-holds
-    in-side-requires
+    (λ c. (zero-le, λ x l. absurd (not-suc-le-zero l)))
+    (λ c κs. search needs)
     returns
-    add-b
-    loop-less
+    (λ c. omega arith)
+    (λ c. omega arith)
     loop-again
     returns-2)

@@ -30,9 +30,6 @@ Inv-loop table n k entries names₀ count i₀ names i =
 abbrev μ-loop : tie.MeasureT-loop
 μ-loop table n k entries names₀ count i₀ names i = length entries / entrySize - i
 
-within-requires : tie.Need-within-requires Inv-loop μ-loop
-within-requires c κs = search needs
-
 loop-holds : tie.Need-loop-holds Inv-loop μ-loop
 loop-holds c =
     let a = c .before .before .args in
@@ -42,21 +39,6 @@ loop-holds c =
       ap (left (a .n) (heapOf (a .names .now))) all,
       c .before .before .pre .1,
     )
-
-read-requires : tie.Need-read-requires Inv-loop μ-loop
-read-requires c κs = search needs
-
-cast-judge-entry : tie.Need-cast-judge-entry Inv-loop μ-loop
-cast-judge-entry c = omega arith
-
-judge-entry-requires : tie.Need-judge-entry-requires Inv-loop μ-loop
-judge-entry-requires c κs = omega arith
-
-enum-told : tie.Need-enum-told Inv-loop μ-loop
-enum-told c = search needs
-
-enum-known-number : tie.Need-enum-known-number Inv-loop μ-loop
-enum-known-number c = search needs
 
 returns : tie.Need-returns Inv-loop μ-loop
 returns c =
@@ -70,15 +52,6 @@ returns c =
       heap-left = λ e. absurd (never-both _ _ _ e refl);
       long = head .inv .3;
     }
-
-part-requires : tie.Need-part-requires Inv-loop μ-loop
-part-requires c κs = search needs
-
-add-i : tie.Need-add-i Inv-loop μ-loop
-add-i c = omega arith
-
-loop-less : tie.Need-loop-less Inv-loop μ-loop
-loop-less c = omega arith
 
 loop-again : tie.Need-loop-again Inv-loop μ-loop
 loop-again c =
@@ -109,16 +82,16 @@ replay-spec =
     (tie.spec
     Inv-loop
     μ-loop
-    within-requires
+    (λ c κs. search needs)
     loop-holds
-    read-requires
-    cast-judge-entry
-    judge-entry-requires
-    enum-told
-    enum-known-number
+    (λ c κs. search needs)
+    (λ c. omega arith)
+    (λ c κs. omega arith)
+    (λ c. search needs)
+    (λ c. search needs)
     returns
-    part-requires
-    add-i
-    loop-less
+    (λ c κs. search needs)
+    (λ c. omega arith)
+    (λ c. omega arith)
     loop-again
     returns-2)

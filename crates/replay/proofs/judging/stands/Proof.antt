@@ -6,9 +6,6 @@ use borrow.Author.Needs.{needs}
 use Rattle.replay.proofs.judging.stands.Statement.{statement}
 use Rattle.replay.proofs.judging.stands.Tie as tie
 
-element-copy-out-result : tie.Need-element-copy-out-result
-element-copy-out-result c = search needs
-
 returns : tie.Need-returns
 unfolding stands pile heapOf
 returns c = simp (lt-ltb _ _ (c .before .if1 .taken))
@@ -18,4 +15,4 @@ unfolding stands pile
 returns-2 c = simp (le-ltb _ _ (c .if1 .left))
 
 pub stands-spec : {M : Type 1} → statement M
-stands-spec = tie.close (tie.spec element-copy-out-result returns returns-2)
+stands-spec = tie.close (tie.spec (λ c. search needs) returns returns-2)

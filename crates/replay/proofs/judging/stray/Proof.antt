@@ -8,12 +8,6 @@ use borrow.Author.Needs.{needs}
 use Rattle.replay.proofs.judging.stray.Statement.{statement}
 use Rattle.replay.proofs.judging.stray.Tie as tie
 
-in-side-requires : tie.Need-in-side-requires
-in-side-requires c κs = search needs
-
-outside-requires : tie.Need-outside-requires
-outside-requires c κs = search needs
-
 returns : tie.Need-returns
 returns c =
     let a = c .before .before .before .args in
@@ -27,4 +21,4 @@ returns-2 c =
     rw off
 
 pub stray-spec : {M : Type 1} → statement M
-stray-spec = tie.close (tie.spec in-side-requires outside-requires returns returns-2)
+stray-spec = tie.close (tie.spec (λ c κs. search needs) (λ c κs. search needs) returns returns-2)

@@ -19,22 +19,10 @@ Inv-loop names n name side b₀ b = (b ≤ 128) × ((x : ℕ) → x < b → T (n
 abbrev μ-loop : tie.MeasureT-loop
 μ-loop names n name side b₀ b = 128 - b
 
-loop-holds : tie.Need-loop-holds Inv-loop μ-loop
-loop-holds c = (zero-le, λ x l. absurd (not-suc-le-zero l))
-
-stray-requires : tie.Need-stray-requires Inv-loop μ-loop
-stray-requires c κs = omega arith
-
 returns : tie.Need-returns Inv-loop μ-loop
 returns c =
     let a = c .before .before .before .before .args in
     sym (some-here 128 (λ x. sideOf (a .side .now) x && not (pile (a .n) (heapOf (a .names .now)) (a .name) x)) (c .before .before .before .loop .b) (omega arith) (holds (sym (c .before .stray .ensures) ∙ c .if1 .taken)))
-
-add-b : tie.Need-add-b Inv-loop μ-loop
-add-b c = omega arith
-
-loop-less : tie.Need-loop-less Inv-loop μ-loop
-loop-less c = omega arith
 
 loop-again : tie.Need-loop-again Inv-loop μ-loop
 loop-again c =
@@ -52,10 +40,10 @@ strays-spec =
     (tie.spec
     Inv-loop
     μ-loop
-    loop-holds
-    stray-requires
+    (λ c. (zero-le, λ x l. absurd (not-suc-le-zero l)))
+    (λ c κs. omega arith)
     returns
-    add-b
-    loop-less
+    (λ c. omega arith)
+    (λ c. omega arith)
     loop-again
     returns-2)

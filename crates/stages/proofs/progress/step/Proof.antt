@@ -7,27 +7,12 @@ use Rattle.stages.proofs.Steps.{counted, kept, stepped}
 use Rattle.stages.proofs.progress.step.Statement.{statement}
 use Rattle.stages.proofs.progress.step.Tie as tie
 
-place-behind-requires : tie.Need-place-behind-requires
-place-behind-requires c κs = search needs
-
-wrapping-add-u32-requires : tie.Need-wrapping-add-u32-requires
-wrapping-add-u32-requires c κs = search needs
-
-move-to-requires : tie.Need-move-to-requires
-move-to-requires c κs = search needs
-
 returns : tie.Need-returns
 returns c =
     let h = c .before .before in
     let e = c .before .if1 .taken in
     stepped _ _ _ _ _ _ _ (c .move-to .ensures) (h .before .place-behind .ensures) (h .wrapping-add-u32 .ensures) (leads-head _ _ e)
     (λ q. omega arith) (λ q. omega arith)
-
-move-to-requires-2 : tie.Need-move-to-requires-2
-move-to-requires-2 c κs = search needs
-
-wrapping-add-u32-requires-2 : tie.Need-wrapping-add-u32-requires-2
-wrapping-add-u32-requires-2 c κs = search needs
 
 returns-2 : tie.Need-returns-2
 returns-2 c =
@@ -45,12 +30,6 @@ returns-2 c =
       cuts = kept (a .kind) 3 (a .s .cuts) _ (λ q. omega arith) (m .cuts);
     }
 
-move-to-requires-3 : tie.Need-move-to-requires-3
-move-to-requires-3 c κs = search needs
-
-wrapping-add-u32-requires-3 : tie.Need-wrapping-add-u32-requires-3
-wrapping-add-u32-requires-3 c κs = search needs
-
 returns-3 : tie.Need-returns-3
 returns-3 c =
     let h = c .before .before .before .before .before in
@@ -67,17 +46,11 @@ returns-3 c =
       cuts = counted (a .kind) 3 (a .s .cuts) _ e (c .wrapping-add-u323 .ensures);
     }
 
-move-to-requires-4 : tie.Need-move-to-requires-4
-move-to-requires-4 c κs = search needs
-
 returns-4 : tie.Need-returns-4
 returns-4 c =
     let h = c .before .before .before .before .before in
     stepped _ _ _ _ _ _ _ (c .move-to4 .ensures) (h .before .place-behind .ensures) (h .wrapping-add-u32 .ensures) (leads-note _ _ (c .before .if4 .taken))
     (λ q. omega arith) (λ q. omega arith)
-
-move-to-requires-5 : tie.Need-move-to-requires-5
-move-to-requires-5 c κs = search needs
 
 returns-5 : tie.Need-returns-5
 returns-5 c =
@@ -92,17 +65,17 @@ pub step-spec : {M : Type 1} → statement M
 step-spec =
     tie.close
     (tie.spec
-    place-behind-requires
-    wrapping-add-u32-requires
-    move-to-requires
+    (λ c κs. search needs)
+    (λ c κs. search needs)
+    (λ c κs. search needs)
     returns
-    move-to-requires-2
-    wrapping-add-u32-requires-2
+    (λ c κs. search needs)
+    (λ c κs. search needs)
     returns-2
-    move-to-requires-3
-    wrapping-add-u32-requires-3
+    (λ c κs. search needs)
+    (λ c κs. search needs)
     returns-3
-    move-to-requires-4
+    (λ c κs. search needs)
     returns-4
-    move-to-requires-5
+    (λ c κs. search needs)
     returns-5)

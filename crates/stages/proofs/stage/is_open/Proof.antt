@@ -5,18 +5,6 @@ use Rattle.stages.specs.Stages.{open-at}
 use Rattle.stages.proofs.stage.is_open.Statement.{statement}
 use Rattle.stages.proofs.stage.is_open.Tie as tie
 
-enum-told : tie.Need-enum-told
-enum-told c = search needs
-
-enum-told-2 : tie.Need-enum-told-2
-enum-told-2 c = search needs
-
-enum-told-3 : tie.Need-enum-told-3
-enum-told-3 c = search needs
-
-enum-told-4 : tie.Need-enum-told-4
-enum-told-4 c = search needs
-
 returns : tie.Need-returns
 unfolding open-at
 returns c = sym (ap open-at (c .enum-told .given .1))
@@ -36,4 +24,4 @@ returns-4 c = sym (ap open-at (c .enum-told4 .given .1))
 pub is-open-spec : {M : Type 1} → statement M
 is-open-spec =
     tie.close
-    (tie.spec enum-told enum-told-2 enum-told-3 enum-told-4 returns returns-2 returns-3 returns-4)
+    (tie.spec (λ c. search needs) (λ c. search needs) (λ c. search needs) (λ c. search needs) returns returns-2 returns-3 returns-4)

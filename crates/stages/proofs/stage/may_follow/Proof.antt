@@ -7,27 +7,9 @@ use Rattle.stages.proofs.Stages.{no-link}
 use Rattle.stages.proofs.stage.may_follow.Statement.{statement}
 use Rattle.stages.proofs.stage.may_follow.Tie as tie
 
-enum-told : tie.Need-enum-told
-enum-told c = search needs
-
-enum-told-2 : tie.Need-enum-told-2
-enum-told-2 c = search needs
-
 returns : tie.Need-returns
 unfolding follows
 returns c = simp (c .before .enum-told2 .given .1, eq-eqb _ _ (c .if1 .taken))
-
-may-follow-cut-requires : tie.Need-may-follow-cut-requires
-may-follow-cut-requires c κs = search needs
-
-enum-told-3 : tie.Need-enum-told-3
-enum-told-3 c = search needs
-
-may-follow-cut-requires-2 : tie.Need-may-follow-cut-requires-2
-may-follow-cut-requires-2 c κs = search needs
-
-enum-told-4 : tie.Need-enum-told-4
-enum-told-4 c = search needs
 
 returns-2 : tie.Need-returns-2
 unfolding follows
@@ -35,9 +17,6 @@ returns-2 c = simp (c .enum-told .given .1)
 
 returns-3 : tie.Need-returns-3
 returns-3 c = c .may-follow-cut .ensures ∙ no-link _ _ (c .before .before .enum-told2 .given .1) (c .before .if1 .left)
-
-returns-4 : tie.Need-returns-4
-returns-4 c = rw (c .before .enum-told3 .given .1) (c .may-follow-cut2 .ensures)
 
 returns-5 : tie.Need-returns-5
 unfolding follows
@@ -47,14 +26,14 @@ pub may-follow-spec : {M : Type 1} → statement M
 may-follow-spec =
     tie.close
     (tie.spec
-    enum-told
-    enum-told-2
+    (λ c. search needs)
+    (λ c. search needs)
     returns
-    may-follow-cut-requires
-    enum-told-3
-    may-follow-cut-requires-2
-    enum-told-4
+    (λ c κs. search needs)
+    (λ c. search needs)
+    (λ c κs. search needs)
+    (λ c. search needs)
     returns-2
     returns-3
-    returns-4
+    (λ c. rw (c .before .enum-told3 .given .1) (c .may-follow-cut2 .ensures))
     returns-5)

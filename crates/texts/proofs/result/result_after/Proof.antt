@@ -4,20 +4,8 @@ use Rattle.texts.proofs.WritesRows.{writes-refused, writes-after}
 use Rattle.texts.proofs.result.result_after.Statement.{statement}
 use Rattle.texts.proofs.result.result_after.Tie as tie
 
-enum-known-judged : tie.Need-enum-known-judged
-enum-known-judged c = search needs
-
-enum-told : tie.Need-enum-told
-enum-told c = search needs
-
 result-from-requires : tie.Need-result-from-requires
 result-from-requires c κs = c .before .before .before .before .before .pre (c .before .enum-told .given .1)
-
-returns : tie.Need-returns
-returns c = writes-refused _ _ _ _ (c .before .judged .given .1)
-
-same-length : tie.Need-same-length
-same-length c = search needs
 
 returns-2 : tie.Need-returns-2
 returns-2 c = writes-after _ _ _ _ _ _ (c .before .before .before .before .enum-told .given .1) (c .before .before .result-from .ensures)
@@ -25,4 +13,4 @@ returns-2 c = writes-after _ _ _ _ _ _ (c .before .before .before .before .enum-
 pub result-after-spec : {M : Type 1} → statement M
 result-after-spec =
     tie.close
-    (tie.spec enum-known-judged enum-told result-from-requires returns same-length returns-2)
+    (tie.spec (λ c. search needs) (λ c. search needs) result-from-requires (λ c. writes-refused _ _ _ _ (c .before .judged .given .1)) (λ c. search needs) returns-2)

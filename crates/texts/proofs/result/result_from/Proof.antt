@@ -8,9 +8,6 @@ use Rattle.texts.proofs.WritesTexts.{length-result}
 use Rattle.texts.proofs.result.result_from.Statement.{statement}
 use Rattle.texts.proofs.result.result_from.Tie as tie
 
-length-of-requires : tie.Need-length-of-requires
-length-of-requires c κs = search needs
-
 returns : tie.Need-returns
 returns c =
     let s = c .before .before .before .before in
@@ -21,12 +18,6 @@ put-result-requires : tie.Need-put-result-requires
 put-result-requires c κs =
     let s = c .before .before .before .before .before in
     (s .pre, omega (arith, length-result (s .args .n) (s .args .k) (s .args .bytes .now), c .before .before .length-of .ensures, c .before .if1 .left))
-
-cast-t13 : tie.Need-cast-t13
-cast-t13 c = search needs
-
-same-length : tie.Need-same-length
-same-length c = search needs
 
 returns-2 : tie.Need-returns-2
 returns-2 c =
@@ -41,4 +32,4 @@ returns-2 c =
 pub result-from-spec : {M : Type 1} → statement M
 result-from-spec =
     tie.close
-    (tie.spec length-of-requires returns put-result-requires cast-t13 same-length returns-2)
+    (tie.spec (λ c κs. search needs) returns put-result-requires (λ c. search needs) (λ c. search needs) returns-2)

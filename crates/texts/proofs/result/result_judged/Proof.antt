@@ -6,15 +6,6 @@ use Rattle.texts.proofs.WritesResult.{firstOf-refused, writes-judged, j
 use Rattle.texts.proofs.result.result_judged.Statement.{statement}
 use Rattle.texts.proofs.result.result_judged.Tie as tie
 
-enum-known-judged : tie.Need-enum-known-judged
-enum-known-judged c = search needs
-
-enum-told : tie.Need-enum-told
-enum-told c = search needs
-
-judge-record-requires : tie.Need-judge-record-requires
-judge-record-requires c κs = search needs
-
 result-after-requires : tie.Need-result-after-requires
 result-after-requires c κs =
     let fits = c .before .before .before .before .before .before .before .before .pre (c .before .before .before .before .enum-told .given .1) in
@@ -23,9 +14,6 @@ result-after-requires c κs =
 
 returns : tie.Need-returns
 returns c = writes-refused _ _ _ _ (firstOf-refused _ _ (c .before .judged .given .1))
-
-same-length : tie.Need-same-length
-same-length c = search needs
 
 returns-2 : tie.Need-returns-2
 returns-2 c =
@@ -37,10 +25,10 @@ pub result-judged-spec : {M : Type 1} → statement M
 result-judged-spec =
     tie.close
     (tie.spec
-    enum-known-judged
-    enum-told
-    judge-record-requires
+    (λ c. search needs)
+    (λ c. search needs)
+    (λ c κs. search needs)
     result-after-requires
     returns
-    same-length
+    (λ c. search needs)
     returns-2)

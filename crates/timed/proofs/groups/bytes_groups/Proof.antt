@@ -20,21 +20,6 @@ Inv-loop n k links «record» labels₀ space₀ times groups₀ i₀ labels spa
 abbrev μ-loop : tie.MeasureT-loop
 μ-loop n k links «record» labels₀ space₀ times groups₀ i₀ labels space groups i = times - i
 
-loop-holds : tie.Need-loop-holds Inv-loop μ-loop
-loop-holds c = (zero-le, refl, refl, none-yet _ _ _ _ _ _ _)
-
-grouping-requires : tie.Need-grouping-requires Inv-loop μ-loop
-grouping-requires c κs = search needs
-
-groups-of-requires : tie.Need-groups-of-requires Inv-loop μ-loop
-groups-of-requires c κs = search needs
-
-add-i : tie.Need-add-i Inv-loop μ-loop
-add-i c = omega arith
-
-loop-less : tie.Need-loop-less Inv-loop μ-loop
-loop-less c = omega arith
-
 loop-again : tie.Need-loop-again Inv-loop μ-loop
 loop-again c =
     let head = c .before .before .before .before .before .before .before .before .before .loop in
@@ -44,12 +29,6 @@ loop-again c =
       omega arith,
       once-more _ _ _ _ _ _ _ (head .i) _ _ _ _ _ _ (call .result) (head .inv .3) (call .ensures) (c .groups-of .ensures),
     )
-
-same-length : tie.Need-same-length Inv-loop μ-loop
-same-length c = search needs
-
-same-length-2 : tie.Need-same-length-2 Inv-loop μ-loop
-same-length-2 c = search needs
 
 returns : tie.Need-returns Inv-loop μ-loop
 returns c =
@@ -63,12 +42,12 @@ bytes-groups-spec =
     (tie.spec
     Inv-loop
     μ-loop
-    loop-holds
-    grouping-requires
-    groups-of-requires
-    add-i
-    loop-less
+    (λ c. (zero-le, refl, refl, none-yet _ _ _ _ _ _ _))
+    (λ c κs. search needs)
+    (λ c κs. search needs)
+    (λ c. omega arith)
+    (λ c. omega arith)
     loop-again
-    same-length
-    same-length-2
+    (λ c. search needs)
+    (λ c. search needs)
     returns)

@@ -4,12 +4,6 @@ use Rattle.timed.specs.Groups.{groupsOf}
 use Rattle.timed.proofs.groups.groups_of.Statement.{statement}
 use Rattle.timed.proofs.groups.groups_of.Tie as tie
 
-enum-known-answer : tie.Need-enum-known-answer
-enum-known-answer c = search needs
-
-enum-told : tie.Need-enum-told
-enum-told c = search needs
-
 returns : tie.Need-returns
 unfolding groupsOf
 returns c = search needs
@@ -19,4 +13,4 @@ unfolding groupsOf
 returns-2 c = search needs
 
 pub groups-of-spec : {M : Type 1} → statement M
-groups-of-spec = tie.close (tie.spec enum-known-answer enum-told returns returns-2)
+groups-of-spec = tie.close (tie.spec (λ c. search needs) (λ c. search needs) returns returns-2)

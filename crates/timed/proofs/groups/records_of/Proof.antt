@@ -16,27 +16,6 @@ Inv-loop links records₀ count i₀ records i = (i ≤ count) × (length record
 abbrev μ-loop : tie.MeasureT-loop
 μ-loop links records₀ count i₀ records i = count - i
 
-links-in-requires : tie.Need-links-in-requires Inv-loop μ-loop
-links-in-requires c κs = search needs
-
-loop-holds : tie.Need-loop-holds Inv-loop μ-loop
-loop-holds c = (zero-le, refl, refl)
-
-link-at-requires : tie.Need-link-at-requires Inv-loop μ-loop
-link-at-requires c κs = search needs
-
-mul-records : tie.Need-mul-records Inv-loop μ-loop
-mul-records c = omega arith
-
-array-set-from-records : tie.Need-array-set-from-records Inv-loop μ-loop
-array-set-from-records c = omega arith
-
-add-i : tie.Need-add-i Inv-loop μ-loop
-add-i c = omega arith
-
-loop-less : tie.Need-loop-less Inv-loop μ-loop
-loop-less c = omega arith
-
 loop-again : tie.Need-loop-again Inv-loop μ-loop
 loop-again c =
     let head = c .before .before .loop in (
@@ -58,12 +37,12 @@ records-of-spec =
     (tie.spec
     Inv-loop
     μ-loop
-    links-in-requires
-    loop-holds
-    link-at-requires
-    mul-records
-    array-set-from-records
-    add-i
-    loop-less
+    (λ c κs. search needs)
+    (λ c. (zero-le, refl, refl))
+    (λ c κs. search needs)
+    (λ c. omega arith)
+    (λ c. omega arith)
+    (λ c. omega arith)
+    (λ c. omega arith)
     loop-again
     returns)

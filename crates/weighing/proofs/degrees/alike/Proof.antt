@@ -10,12 +10,6 @@ use borrow.Author.Needs.{needs}
 use Rattle.weighing.proofs.degrees.alike.Statement.{statement}
 use Rattle.weighing.proofs.degrees.alike.Tie as tie
 
-element-copy-out-if1 : tie.Need-element-copy-out-if1
-element-copy-out-if1 c = search needs
-
-element-copy-out-if1-2 : tie.Need-element-copy-out-if1-2
-element-copy-out-if1-2 c = search needs
-
 returns : tie.Need-returns
 unfolding heapOf
 returns c =
@@ -29,4 +23,4 @@ returns-2 c =
     sym (ap (λ (t : Bool). cond t 1 0) (mate-stranger (heapOf (a .names .now)) (a .i) (a .j) (c .if1 .left)))
 
 pub alike-spec : {M : Type 1} → statement M
-alike-spec = tie.close (tie.spec element-copy-out-if1 element-copy-out-if1-2 returns returns-2)
+alike-spec = tie.close (tie.spec (λ c. search needs) (λ c. search needs) returns returns-2)

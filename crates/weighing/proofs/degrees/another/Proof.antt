@@ -23,20 +23,11 @@ loop-holds : tie.Need-loop-holds Inv-loop μ-loop
 unfolding some
 loop-holds c = (zero-le, refl)
 
-are-mates-requires : tie.Need-are-mates-requires Inv-loop μ-loop
-are-mates-requires c κs = omega arith
-
 returns : tie.Need-returns Inv-loop μ-loop
 returns c =
     let a = c .before .before .before .before .args in
     let l = c .before .before .before .loop in
     sym (is-true _ (some-intro (a .n) (mate (heapOf (a .names .now)) (a .u)) (l .c) (c .before .before .loop-test .taken) (holds (sym (c .before .are-mates .ensures) ∙ c .if1 .taken))))
-
-add-c : tie.Need-add-c Inv-loop μ-loop
-add-c c = omega arith
-
-loop-less : tie.Need-loop-less Inv-loop μ-loop
-loop-less c = omega arith
 
 loop-again : tie.Need-loop-again Inv-loop μ-loop
 loop-again c =
@@ -57,9 +48,9 @@ another-spec =
     Inv-loop
     μ-loop
     loop-holds
-    are-mates-requires
+    (λ c κs. omega arith)
     returns
-    add-c
-    loop-less
+    (λ c. omega arith)
+    (λ c. omega arith)
     loop-again
     returns-2)

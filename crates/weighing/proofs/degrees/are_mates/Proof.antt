@@ -7,15 +7,6 @@ use Rattle.weighing.proofs.Noting.{mate-none, mate-other}
 use Rattle.weighing.proofs.degrees.are_mates.Statement.{statement}
 use Rattle.weighing.proofs.degrees.are_mates.Tie as tie
 
-element-copy-out-result : tie.Need-element-copy-out-result
-element-copy-out-result c = search needs
-
-element-copy-out-result-2 : tie.Need-element-copy-out-result-2
-element-copy-out-result-2 c = search needs
-
-returns : tie.Need-returns
-returns c = sym (mate-none _ _ _ (c .if1 .taken))
-
 returns-2 : tie.Need-returns-2
 unfolding heapOf
 returns-2 c =
@@ -24,4 +15,4 @@ returns-2 c =
 
 pub are-mates-spec : {M : Type 1} → statement M
 are-mates-spec =
-    tie.close (tie.spec element-copy-out-result element-copy-out-result-2 returns returns-2)
+    tie.close (tie.spec (λ c. search needs) (λ c. search needs) (λ c. sym (mate-none _ _ _ (c .if1 .taken))) returns-2)

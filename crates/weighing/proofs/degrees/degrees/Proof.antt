@@ -16,23 +16,8 @@ Inv-loop table names n bones degrees₀ i₀ degrees i = (i ≤ bones) × Noted 
 abbrev μ-loop : tie.MeasureT-loop
 μ-loop table names n bones degrees₀ i₀ degrees i = bones - i
 
-at-most-128-requires : tie.Need-at-most-128-requires Inv-loop μ-loop
-at-most-128-requires c κs = omega arith
-
 loop-holds : tie.Need-loop-holds Inv-loop μ-loop
 loop-holds c = (zero-le, noted-none (held (c .before .args .table .now)) (heapOf (c .before .args .names .now)) 128 refl)
-
-note-requires : tie.Need-note-requires Inv-loop μ-loop
-note-requires c κs = (omega arith, c .before .before .loop .inv .1)
-
-add-i : tie.Need-add-i Inv-loop μ-loop
-add-i c = omega arith
-
-loop-less : tie.Need-loop-less Inv-loop μ-loop
-loop-less c = omega arith
-
-loop-again : tie.Need-loop-again Inv-loop μ-loop
-loop-again c = (omega arith, c .note .ensures)
 
 returns : tie.Need-returns Inv-loop μ-loop
 returns c =
@@ -46,10 +31,10 @@ degrees-spec =
     (tie.spec
     Inv-loop
     μ-loop
-    at-most-128-requires
+    (λ c κs. omega arith)
     loop-holds
-    note-requires
-    add-i
-    loop-less
-    loop-again
+    (λ c κs. (omega arith, c .before .before .loop .inv .1))
+    (λ c. omega arith)
+    (λ c. omega arith)
+    (λ c. (omega arith, c .note .ensures))
     returns)

@@ -13,33 +13,9 @@ use borrow.Author.Needs.{needs}
 use Rattle.weighing.proofs.degrees.earlier.Statement.{statement}
 use Rattle.weighing.proofs.degrees.earlier.Tie as tie
 
-mul-wide : tie.Need-mul-wide
-mul-wide c = search needs
-
-add-wide : tie.Need-add-wide
-add-wide c = search needs
-
-mul-wide-2 : tie.Need-mul-wide-2
-mul-wide-2 c = search needs
-
-element-copy-out-wide : tie.Need-element-copy-out-wide
-element-copy-out-wide c = search needs
-
-wide-requires : tie.Need-wide-requires
-wide-requires c κs = search needs
-
-alike-requires : tie.Need-alike-requires
-alike-requires c κs = search needs
-
 -- the product as a choice, and that it is no more than the tally
 term : (c : tie.After-alike) → let a = c .before .before .before .args in (c .before .wide .result * c .alike .result ≡ cond (mate (heapOf (a .names .now)) (a .i) (a .j)) (c .before .wide .result) 0) × (c .before .wide .result * c .alike .result ≤ c .before .wide .result)
 term c = let a = c .before .before .before .args in product (c .before .wide .result) (mate (heapOf (a .names .now)) (a .i) (a .j)) (c .alike .ensures)
-
-mul-result : tie.Need-mul-result
-mul-result c = record { fits = omega (arith, term c, c .before .wide .ensures .1) }
-
-cast-result : tie.Need-cast-result
-cast-result c = record { fits = omega (arith, term c, c .before .wide .ensures .1) }
 
 returns : tie.Need-returns
 unfolding held spot
@@ -53,12 +29,12 @@ pub earlier-spec : {M : Type 1} → statement M
 earlier-spec =
     tie.close
     (tie.spec
-    mul-wide
-    add-wide
-    mul-wide-2
-    element-copy-out-wide
-    wide-requires
-    alike-requires
-    mul-result
-    cast-result
+    (λ c. search needs)
+    (λ c. search needs)
+    (λ c. search needs)
+    (λ c. search needs)
+    (λ c κs. search needs)
+    (λ c κs. search needs)
+    (λ c. record { fits = omega (arith, term c, c .before .wide .ensures .1) })
+    (λ c. record { fits = omega (arith, term c, c .before .wide .ensures .1) })
     returns)

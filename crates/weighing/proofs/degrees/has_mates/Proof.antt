@@ -10,21 +10,6 @@ use Rattle.weighing.proofs.Lone.{joined-yes, joined-no, joined-low, joi
 use Rattle.weighing.proofs.degrees.has_mates.Statement.{statement}
 use Rattle.weighing.proofs.degrees.has_mates.Tie as tie
 
-element-copy-out-bone : tie.Need-element-copy-out-bone
-element-copy-out-bone c = search needs
-
-bone-requires : tie.Need-bone-requires
-bone-requires c κs = search needs
-
-element-copy-out-bone-2 : tie.Need-element-copy-out-bone-2
-element-copy-out-bone-2 c = search needs
-
-bone-requires-2 : tie.Need-bone-requires-2
-bone-requires-2 c κs = search needs
-
-another-requires : tie.Need-another-requires
-another-requires c κs = search needs
-
 returns : tie.Need-returns
 unfolding heapOf
 returns c =
@@ -61,11 +46,11 @@ pub has-mates-spec : {M : Type 1} → statement M
 has-mates-spec =
     tie.close
     (tie.spec
-    element-copy-out-bone
-    bone-requires
-    element-copy-out-bone-2
-    bone-requires-2
-    another-requires
+    (λ c. search needs)
+    (λ c κs. search needs)
+    (λ c. search needs)
+    (λ c κs. search needs)
+    (λ c κs. search needs)
     returns
     returns-2
     returns-3

@@ -22,27 +22,12 @@ Inv-loop table names n x y degrees₀ bones b₀ degrees b = (b ≤ bones) × (N
 abbrev μ-loop : tie.MeasureT-loop
 μ-loop table names n x y degrees₀ bones b₀ degrees b = bones - b
 
-at-most-128-requires : tie.Need-at-most-128-requires Inv-loop μ-loop
-at-most-128-requires c κs = omega arith
-
 loop-holds : tie.Need-loop-holds Inv-loop μ-loop
 loop-holds c =
     let a = c .before .args in
     let n = c .at-most-128 .result in
     let h = heapOf (a .names .now) in
     (zero-le, λ notes. less-same (lost-none n (held (a .table .now)) (pile n h (a .x)) (pile n h (a .y))) (less-none notes))
-
-element-copy-out-if1 : tie.Need-element-copy-out-if1 Inv-loop μ-loop
-element-copy-out-if1 c = omega arith
-
-part-requires : tie.Need-part-requires Inv-loop μ-loop
-part-requires c κs = omega arith
-
-add-b : tie.Need-add-b Inv-loop μ-loop
-add-b c = omega arith
-
-loop-less : tie.Need-loop-less Inv-loop μ-loop
-loop-less c = omega arith
 
 loop-again : tie.Need-loop-again Inv-loop μ-loop
 unfolding heapOf
@@ -85,11 +70,11 @@ leave-from-spec =
     (tie.spec
     Inv-loop
     μ-loop
-    at-most-128-requires
+    (λ c κs. omega arith)
     loop-holds
-    element-copy-out-if1
-    part-requires
-    add-b
-    loop-less
+    (λ c. omega arith)
+    (λ c κs. omega arith)
+    (λ c. omega arith)
+    (λ c. omega arith)
     loop-again
     returns)

@@ -27,21 +27,6 @@ u-below c =
 u-low : (c : tie.Then1) → c .before .before .before .args .u < 128
 u-low c = omega (arith, c .before .before .at-most-128 .ensures .1, u-below c)
 
-at-most-128-requires : tie.Need-at-most-128-requires
-at-most-128-requires c κs = search needs
-
-has-mates-requires : tie.Need-has-mates-requires
-has-mates-requires c κs = search needs
-
-take-out-requires : tie.Need-take-out-requires
-take-out-requires c κs = (omega arith, u-low (c .before))
-
-element-copy-out-t14 : tie.Need-element-copy-out-t14
-element-copy-out-t14 c = u-low (c .before .before .before)
-
-lone-side-requires : tie.Need-lone-side-requires
-lone-side-requires c κs = (omega arith, u-below (c .before .before .before .before))
-
 -- the degrees that were taken out
 taken : (c : tie.After-take-out) → let a = c .before .before .before .before .before .args in Notes (a .degrees .now) → Lessened (without (c .before .before .before .before .at-most-128 .result) (held (a .table .now)) (heapOf (a .names .now)) (a .u)) (a .degrees .now) (c .take-out .last .1 .1 .1 .1 .0)
 taken c notes =
@@ -96,11 +81,11 @@ pub lone-spec : {M : Type 1} → statement M
 lone-spec =
     tie.close
     (tie.spec
-    at-most-128-requires
-    has-mates-requires
-    take-out-requires
-    element-copy-out-t14
-    lone-side-requires
+    (λ c κs. search needs)
+    (λ c κs. search needs)
+    (λ c κs. (omega arith, u-low (c .before)))
+    (λ c. u-low (c .before .before .before))
+    (λ c κs. (omega arith, u-below (c .before .before .before .before)))
     returns
     returns-2
     returns-3)

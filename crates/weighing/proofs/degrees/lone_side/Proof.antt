@@ -12,18 +12,6 @@ use Rattle.weighing.proofs.Lone.{moves-named, moves-lone, others-side}
 use Rattle.weighing.proofs.degrees.lone_side.Statement.{statement}
 use Rattle.weighing.proofs.degrees.lone_side.Tie as tie
 
-element-copy-out-bone : tie.Need-element-copy-out-bone
-element-copy-out-bone c = search needs
-
-bone-requires : tie.Need-bone-requires
-bone-requires c κs = search needs
-
-array-write-marks : tie.Need-array-write-marks
-array-write-marks c = search needs
-
-side-of-requires : tie.Need-side-of-requires
-side-of-requires c κs = search needs
-
 put-requires : tie.Need-put-requires
 put-requires c κs = (omega arith, refl, fails (side-none 16 (c .before .before .before .before .args .u)))
 
@@ -46,4 +34,4 @@ returns-2 c =
 pub lone-side-spec : {M : Type 1} → statement M
 lone-side-spec =
     tie.close
-    (tie.spec element-copy-out-bone bone-requires array-write-marks side-of-requires put-requires returns returns-2)
+    (tie.spec (λ c. search needs) (λ c κs. search needs) (λ c. search needs) (λ c κs. search needs) put-requires returns returns-2)

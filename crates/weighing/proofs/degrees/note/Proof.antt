@@ -23,33 +23,6 @@ abbrev μ-loop : tie.MeasureT-loop
 loop-holds : tie.Need-loop-holds Inv-loop μ-loop
 loop-holds c = (zero-le, c .pre .1 .notes .long, omega (arith, toward-none (held (c .args .table .now)) (mate (heapOf (c .args .names .now)) (c .args .i)) (c .args .i)), λ b. rw (not-nought b))
 
-earlier-requires : tie.Need-earlier-requires Inv-loop μ-loop
-earlier-requires c κs = omega arith
-
-wrapping-add-u32-requires : tie.Need-wrapping-add-u32-requires Inv-loop μ-loop
-wrapping-add-u32-requires c κs = omega arith
-
-mul-wrapping-add-u32 : tie.Need-mul-wrapping-add-u32 Inv-loop μ-loop
-mul-wrapping-add-u32 c = omega arith
-
-element-copy-out-wrapping-add-u32 : tie.Need-element-copy-out-wrapping-add-u32 Inv-loop μ-loop
-element-copy-out-wrapping-add-u32 c = omega arith
-
-wrapping-add-u32-requires-2 : tie.Need-wrapping-add-u32-requires-2 Inv-loop μ-loop
-wrapping-add-u32-requires-2 c κs = omega arith
-
-mul-degrees : tie.Need-mul-degrees Inv-loop μ-loop
-mul-degrees c = omega arith
-
-element-write-degrees : tie.Need-element-write-degrees Inv-loop μ-loop
-element-write-degrees c = omega arith
-
-add-j : tie.Need-add-j Inv-loop μ-loop
-add-j c = omega arith
-
-loop-less : tie.Need-loop-less Inv-loop μ-loop
-loop-less c = omega arith
-
 loop-again : tie.Need-loop-again Inv-loop μ-loop
 loop-again c =
     let a = c .before .before .before .before .before .before .args in
@@ -60,12 +33,6 @@ loop-again c =
       omega (arith, tally, l .inv .2, c .before .before .wrapping-add-u32 .ensures, toward-next (l .j) (held (a .table .now)) (mate (heapOf (a .names .now)) (a .i)) (a .i)),
       store-next _ (λ b. getD (a .degrees .now) b 0) (l .degrees) (l .j) (c .wrapping-add-u322 .result) (omega arith) (λ e. omega (arith, e, tally, c .wrapping-add-u322 .ensures)) (l .inv .3),
     )
-
-mul-degrees-2 : tie.Need-mul-degrees-2 Inv-loop μ-loop
-mul-degrees-2 c = omega arith
-
-element-write-degrees-2 : tie.Need-element-write-degrees-2 Inv-loop μ-loop
-element-write-degrees-2 c = omega arith
 
 returns : tie.Need-returns Inv-loop μ-loop
 returns c =
@@ -83,16 +50,16 @@ note-spec =
     Inv-loop
     μ-loop
     loop-holds
-    earlier-requires
-    wrapping-add-u32-requires
-    mul-wrapping-add-u32
-    element-copy-out-wrapping-add-u32
-    wrapping-add-u32-requires-2
-    mul-degrees
-    element-write-degrees
-    add-j
-    loop-less
+    (λ c κs. omega arith)
+    (λ c κs. omega arith)
+    (λ c. omega arith)
+    (λ c. omega arith)
+    (λ c κs. omega arith)
+    (λ c. omega arith)
+    (λ c. omega arith)
+    (λ c. omega arith)
+    (λ c. omega arith)
     loop-again
-    mul-degrees-2
-    element-write-degrees-2
+    (λ c. omega arith)
+    (λ c. omega arith)
     returns)

@@ -23,36 +23,6 @@ loop-holds c =
     let S = pile (c .args .n) (heapOf (c .args .names .now)) (c .args .y) in
     (zero-le, omega (arith, toward-none w S (c .args .b)), λ notes. less-same (share-none w S (c .args .b)) (less-none notes))
 
-toward-one-requires : tie.Need-toward-one-requires Inv-loop μ-loop
-toward-one-requires c κs = omega arith
-
-cast-tally : tie.Need-cast-tally Inv-loop μ-loop
-cast-tally c = omega (arith, c .toward-one .ensures .1)
-
-wrapping-add-u32-requires : tie.Need-wrapping-add-u32-requires Inv-loop μ-loop
-wrapping-add-u32-requires c κs = omega arith
-
-mul-wrapping-sub-u32 : tie.Need-mul-wrapping-sub-u32 Inv-loop μ-loop
-mul-wrapping-sub-u32 c = omega arith
-
-element-copy-out-wrapping-sub-u32 : tie.Need-element-copy-out-wrapping-sub-u32 Inv-loop μ-loop
-element-copy-out-wrapping-sub-u32 c = omega arith
-
-wrapping-sub-u32-requires : tie.Need-wrapping-sub-u32-requires Inv-loop μ-loop
-wrapping-sub-u32-requires c κs = omega arith
-
-mul-degrees : tie.Need-mul-degrees Inv-loop μ-loop
-mul-degrees c = omega arith
-
-element-write-degrees : tie.Need-element-write-degrees Inv-loop μ-loop
-element-write-degrees c = omega arith
-
-add-c : tie.Need-add-c Inv-loop μ-loop
-add-c c = omega arith
-
-loop-less : tie.Need-loop-less Inv-loop μ-loop
-loop-less c = omega arith
-
 loop-again : tie.Need-loop-again Inv-loop μ-loop
 loop-again c =
     let a = c .before .before .before .before .before .before .args in
@@ -66,21 +36,6 @@ loop-again c =
       λ notes. less-same (share-next w S (a .b) (l .c))
           (less-at (l .c) _ (c .wrapping-sub-u32 .result) (omega arith) (omega (arith, c .wrapping-sub-u32 .ok)) (omega (arith, term, c .before .before .before .toward-one .ensures .1, c .wrapping-sub-u32 .ensures)) (l .inv .2 notes)),
     )
-
-mul-wrapping-sub-u32-2 : tie.Need-mul-wrapping-sub-u32-2 Inv-loop μ-loop
-mul-wrapping-sub-u32-2 c = omega arith
-
-element-copy-out-wrapping-sub-u32-2 : tie.Need-element-copy-out-wrapping-sub-u32-2 Inv-loop μ-loop
-element-copy-out-wrapping-sub-u32-2 c = omega arith
-
-wrapping-sub-u32-requires-2 : tie.Need-wrapping-sub-u32-requires-2 Inv-loop μ-loop
-wrapping-sub-u32-requires-2 c κs = omega arith
-
-mul-degrees-2 : tie.Need-mul-degrees-2 Inv-loop μ-loop
-mul-degrees-2 c = omega arith
-
-element-write-degrees-2 : tie.Need-element-write-degrees-2 Inv-loop μ-loop
-element-write-degrees-2 c = omega arith
 
 returns : tie.Need-returns Inv-loop μ-loop
 returns c =
@@ -100,20 +55,20 @@ part-spec =
     Inv-loop
     μ-loop
     loop-holds
-    toward-one-requires
-    cast-tally
-    wrapping-add-u32-requires
-    mul-wrapping-sub-u32
-    element-copy-out-wrapping-sub-u32
-    wrapping-sub-u32-requires
-    mul-degrees
-    element-write-degrees
-    add-c
-    loop-less
+    (λ c κs. omega arith)
+    (λ c. omega (arith, c .toward-one .ensures .1))
+    (λ c κs. omega arith)
+    (λ c. omega arith)
+    (λ c. omega arith)
+    (λ c κs. omega arith)
+    (λ c. omega arith)
+    (λ c. omega arith)
+    (λ c. omega arith)
+    (λ c. omega arith)
     loop-again
-    mul-wrapping-sub-u32-2
-    element-copy-out-wrapping-sub-u32-2
-    wrapping-sub-u32-requires-2
-    mul-degrees-2
-    element-write-degrees-2
+    (λ c. omega arith)
+    (λ c. omega arith)
+    (λ c κs. omega arith)
+    (λ c. omega arith)
+    (λ c. omega arith)
     returns)

@@ -24,36 +24,6 @@ loop-holds c =
     let S = mate (heapOf (c .args .names .now)) (c .args .u) in
     (zero-le, sym (toward-none w S (c .args .u)), zero-le, λ notes. less-same (share-none w S (c .args .u)) (less-none notes))
 
-with-mate-requires : tie.Need-with-mate-requires Inv-loop μ-loop
-with-mate-requires c κs = omega arith
-
-add-total : tie.Need-add-total Inv-loop μ-loop
-add-total c = omega (arith, c .with-mate .ensures .1)
-
-mul-wrapping-sub-u32 : tie.Need-mul-wrapping-sub-u32 Inv-loop μ-loop
-mul-wrapping-sub-u32 c = omega arith
-
-element-copy-out-wrapping-sub-u32 : tie.Need-element-copy-out-wrapping-sub-u32 Inv-loop μ-loop
-element-copy-out-wrapping-sub-u32 c = omega arith
-
-cast-wrapping-sub-u32 : tie.Need-cast-wrapping-sub-u32 Inv-loop μ-loop
-cast-wrapping-sub-u32 c = omega (arith, c .before .with-mate .ensures .1)
-
-wrapping-sub-u32-requires : tie.Need-wrapping-sub-u32-requires Inv-loop μ-loop
-wrapping-sub-u32-requires c κs = omega arith
-
-mul-degrees : tie.Need-mul-degrees Inv-loop μ-loop
-mul-degrees c = omega arith
-
-element-write-degrees : tie.Need-element-write-degrees Inv-loop μ-loop
-element-write-degrees c = omega arith
-
-add-c : tie.Need-add-c Inv-loop μ-loop
-add-c c = omega arith
-
-loop-less : tie.Need-loop-less Inv-loop μ-loop
-loop-less c = omega arith
-
 loop-again : tie.Need-loop-again Inv-loop μ-loop
 unfolding degree
 loop-again c =
@@ -87,15 +57,15 @@ take-out-spec =
     Inv-loop
     μ-loop
     loop-holds
-    with-mate-requires
-    add-total
-    mul-wrapping-sub-u32
-    element-copy-out-wrapping-sub-u32
-    cast-wrapping-sub-u32
-    wrapping-sub-u32-requires
-    mul-degrees
-    element-write-degrees
-    add-c
-    loop-less
+    (λ c κs. omega arith)
+    (λ c. omega (arith, c .with-mate .ensures .1))
+    (λ c. omega arith)
+    (λ c. omega arith)
+    (λ c. omega (arith, c .before .with-mate .ensures .1))
+    (λ c κs. omega arith)
+    (λ c. omega arith)
+    (λ c. omega arith)
+    (λ c. omega arith)
+    (λ c. omega arith)
     loop-again
     returns)

@@ -9,12 +9,6 @@ use Rattle.pairs.specs.Side.{heapOf}
 use Rattle.weighing.proofs.degrees.toward_one.Statement.{statement}
 use Rattle.weighing.proofs.degrees.toward_one.Tie as tie
 
-element-copy-out-if1 : tie.Need-element-copy-out-if1
-element-copy-out-if1 c = search needs
-
-tally-between-requires : tie.Need-tally-between-requires
-tally-between-requires c κs = search needs
-
 returns : tie.Need-returns
 unfolding heapOf
 returns c =
@@ -29,4 +23,4 @@ returns-2 c = (simp (ne-eqb _ _ (c .if1 .left)), search needs)
 
 pub toward-one-spec : {M : Type 1} → statement M
 toward-one-spec =
-    tie.close (tie.spec element-copy-out-if1 tally-between-requires returns returns-2)
+    tie.close (tie.spec (λ c. search needs) (λ c κs. search needs) returns returns-2)

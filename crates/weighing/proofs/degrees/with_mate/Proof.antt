@@ -7,12 +7,6 @@ use Rattle.pairs.specs.Table.{held}
 use Rattle.weighing.proofs.degrees.with_mate.Statement.{statement}
 use Rattle.weighing.proofs.degrees.with_mate.Tie as tie
 
-are-mates-requires : tie.Need-are-mates-requires
-are-mates-requires c κs = search needs
-
-tally-between-requires : tie.Need-tally-between-requires
-tally-between-requires c κs = search needs
-
 returns : tie.Need-returns
 returns c =
     let a = c .before .before .before .args in (
@@ -24,4 +18,4 @@ returns-2 : tie.Need-returns-2
 returns-2 c = (simp (sym (c .before .are-mates .ensures) ∙ c .if1 .left), search needs)
 
 pub with-mate-spec : {M : Type 1} → statement M
-with-mate-spec = tie.close (tie.spec are-mates-requires tally-between-requires returns returns-2)
+with-mate-spec = tie.close (tie.spec (λ c κs. search needs) (λ c κs. search needs) returns returns-2)

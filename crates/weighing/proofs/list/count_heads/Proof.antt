@@ -17,23 +17,8 @@ Inv-loop joins count heads₀ i₀ i-end heads i = (i ≤ count - 1) × (heads �
 abbrev μ-loop : tie.MeasureT-loop
 μ-loop joins count heads₀ i₀ i-end heads i = count - i
 
-sub-i-end : tie.Need-sub-i-end Inv-loop μ-loop
-sub-i-end c = omega arith
-
 loop-holds : tie.Need-loop-holds Inv-loop μ-loop
 loop-holds c = (omega arith, omega (arith, unmarked-none (c .args .joins .now)), omega arith)
-
-element-copy-out-if1 : tie.Need-element-copy-out-if1 Inv-loop μ-loop
-element-copy-out-if1 c = omega arith
-
-add-heads : tie.Need-add-heads Inv-loop μ-loop
-add-heads c = omega arith
-
-add-i : tie.Need-add-i Inv-loop μ-loop
-add-i c = omega arith
-
-loop-less : tie.Need-loop-less Inv-loop μ-loop
-loop-less c = omega arith
 
 loop-again : tie.Need-loop-again Inv-loop μ-loop
 unfolding marked
@@ -57,11 +42,11 @@ count-heads-spec =
     (tie.spec
     Inv-loop
     μ-loop
-    sub-i-end
+    (λ c. omega arith)
     loop-holds
-    element-copy-out-if1
-    add-heads
-    add-i
-    loop-less
+    (λ c. omega arith)
+    (λ c. omega arith)
+    (λ c. omega arith)
+    (λ c. omega arith)
     loop-again
     returns)

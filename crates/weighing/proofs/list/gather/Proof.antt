@@ -16,26 +16,8 @@ Inv-loop names n p list₀ m₀ b₀ list m b = (b ≤ n) × Gathered (pile n (h
 abbrev μ-loop : tie.MeasureT-loop
 μ-loop names n p list₀ m₀ b₀ list m b = n - b
 
-loop-holds : tie.Need-loop-holds Inv-loop μ-loop
-loop-holds c = (zero-le, gathered-start _ _ (c .pre .1))
-
-cast-list : tie.Need-cast-list Inv-loop μ-loop
-cast-list c = omega arith
-
-element-write-list : tie.Need-element-write-list Inv-loop μ-loop
-element-write-list c = omega (arith, c .before .loop .inv .1 .most)
-
-is-in-requires : tie.Need-is-in-requires Inv-loop μ-loop
-is-in-requires c κs = omega arith
-
 add-m : tie.Need-add-m Inv-loop μ-loop
 add-m c = omega (arith, c .before .before .loop .inv .1 .most, c .is-in .ensures .1)
-
-add-b : tie.Need-add-b Inv-loop μ-loop
-add-b c = omega arith
-
-loop-less : tie.Need-loop-less Inv-loop μ-loop
-loop-less c = omega arith
 
 loop-again : tie.Need-loop-again Inv-loop μ-loop
 loop-again c =
@@ -56,12 +38,12 @@ gather-spec =
     (tie.spec
     Inv-loop
     μ-loop
-    loop-holds
-    cast-list
-    element-write-list
-    is-in-requires
+    (λ c. (zero-le, gathered-start _ _ (c .pre .1)))
+    (λ c. omega arith)
+    (λ c. omega (arith, c .before .loop .inv .1 .most))
+    (λ c κs. omega arith)
     add-m
-    add-b
-    loop-less
+    (λ c. omega arith)
+    (λ c. omega arith)
     loop-again
     returns)

@@ -12,12 +12,6 @@ use Rattle.weighing.proofs.Listing.{cond-yes, cond-no}
 use Rattle.weighing.proofs.list.is_in.Statement.{statement}
 use Rattle.weighing.proofs.list.is_in.Tie as tie
 
-element-copy-out-bone : tie.Need-element-copy-out-bone
-element-copy-out-bone c = search needs
-
-bone-requires : tie.Need-bone-requires
-bone-requires c κs = search needs
-
 returns : tie.Need-returns
 unfolding heapOf
 returns c =
@@ -31,4 +25,4 @@ returns-2 c =
     (sym (cond-no (pile (a .n) (heapOf (a .names .now)) (a .p) (a .b)) 1 0 (not-T (pile (a .n) (heapOf (a .names .now)) (a .p) (a .b)) (λ t. c .if1 .left (c .before .bone .ensures .0 ∙ pile-name (a .n) (heapOf (a .names .now)) (a .p) (a .b) t)))), zero-le)
 
 pub is-in-spec : {M : Type 1} → statement M
-is-in-spec = tie.close (tie.spec element-copy-out-bone bone-requires returns returns-2)
+is-in-spec = tie.close (tie.spec (λ c. search needs) (λ c κs. search needs) returns returns-2)

@@ -16,25 +16,10 @@ Inv-loop order joins count heads list₀ into₀ start₀ head₀ group₀ front
 abbrev μ-loop : tie.MeasureT-loop
 μ-loop order joins count heads list₀ into₀ start₀ head₀ group₀ front₀ back₀ i₀ list into start head group front back i = i
 
-sub-head : tie.Need-sub-head Inv-loop μ-loop
-sub-head c = omega arith
-
-element-copy-out-head : tie.Need-element-copy-out-head Inv-loop μ-loop
-element-copy-out-head c = omega (arith, c .pre .0 .1 .few)
-
-element-write-list : tie.Need-element-write-list Inv-loop μ-loop
-element-write-list c = omega arith
-
-sub-i : tie.Need-sub-i Inv-loop μ-loop
-sub-i c = omega arith
-
 loop-holds : tie.Need-loop-holds Inv-loop μ-loop
 loop-holds c =
     let s = c .before in
     laying-start (s .pre .0 .1) (s .args .list .now) (s .args .into .now) (s .args .start .now) (s .pre .0 .0) (s .pre .0 .2) (s .pre .1 .0) (s .pre .1 .1) (s .pre .1 .2)
-
-sub-i-2 : tie.Need-sub-i-2 Inv-loop μ-loop
-sub-i-2 c = omega arith
 
 element-copy-out-u : tie.Need-element-copy-out-u Inv-loop μ-loop
 element-copy-out-u c = omega (arith, c .before .loop .inv .last, c .before .before .before .pre .0 .1 .few)
@@ -50,23 +35,8 @@ room c =
     let l = c .before .before .before .before .loop in
     omega (arith, s .pre .0 .1 .few, tied-room (s .pre .0 .1) (omega arith) (l .inv) (eq→eqb _ 1 (c .if1 .taken)))
 
-element-write-list-2 : tie.Need-element-write-list-2 Inv-loop μ-loop
-element-write-list-2 c = room c
-
-element-write-into : tie.Need-element-write-into Inv-loop μ-loop
-element-write-into c = room c
-
 cast-start : tie.Need-cast-start Inv-loop μ-loop
 cast-start c = omega (arith, room c, c .before .before .before .before .loop .inv .before)
-
-element-write-start : tie.Need-element-write-start Inv-loop μ-loop
-element-write-start c = room c
-
-add-back : tie.Need-add-back Inv-loop μ-loop
-add-back c = omega (arith, room c)
-
-loop-less : tie.Need-loop-less Inv-loop μ-loop
-loop-less c = omega arith
 
 loop-again : tie.Need-loop-again Inv-loop μ-loop
 unfolding marked
@@ -78,15 +48,6 @@ room-2 c =
     let s = c .before .before .before .before .before .before in
     let l = c .before .before .before .before .loop in
     omega (arith, s .pre .0 .1 .few, l .inv .so-far, l .inv .after, l .inv .before)
-
-element-write-list-3 : tie.Need-element-write-list-3 Inv-loop μ-loop
-element-write-list-3 c = room-2 c
-
-add-front : tie.Need-add-front Inv-loop μ-loop
-add-front c = omega (arith, room-2 c)
-
-loop-less-2 : tie.Need-loop-less-2 Inv-loop μ-loop
-loop-less-2 c = omega arith
 
 loop-again-2 : tie.Need-loop-again-2 Inv-loop μ-loop
 unfolding marked
@@ -101,23 +62,23 @@ lay-spec =
     (tie.spec
     Inv-loop
     μ-loop
-    sub-head
-    element-copy-out-head
-    element-write-list
-    sub-i
+    (λ c. omega arith)
+    (λ c. omega (arith, c .pre .0 .1 .few))
+    (λ c. omega arith)
+    (λ c. omega arith)
     loop-holds
-    sub-i-2
+    (λ c. omega arith)
     element-copy-out-u
     element-copy-out-if1
-    element-write-list-2
-    element-write-into
+    (λ c. room c)
+    (λ c. room c)
     cast-start
-    element-write-start
-    add-back
-    loop-less
+    (λ c. room c)
+    (λ c. omega (arith, room c))
+    (λ c. omega arith)
     loop-again
-    element-write-list-3
-    add-front
-    loop-less-2
+    (λ c. room-2 c)
+    (λ c. omega (arith, room-2 c))
+    (λ c. omega arith)
     loop-again-2
     returns)

@@ -5,12 +5,6 @@ use borrow.Author.Needs.{needs}
 use Rattle.weighing.proofs.merge.take_pair.Statement.{statement}
 use Rattle.weighing.proofs.merge.take_pair.Tie as tie
 
-tally-of-requires : tie.Need-tally-of-requires
-tally-of-requires c κs = search needs
-
-lower-between-requires : tie.Need-lower-between-requires
-lower-between-requires c κs = search needs
-
 returns : tie.Need-returns
 returns c =
     let by = c .before .before .tally-of .ensures in
@@ -23,8 +17,5 @@ returns c =
       ),
     )
 
-returns-2 : tie.Need-returns-2
-returns-2 c = (λ e. refl, λ n. absurd (n (c .if1 .left)))
-
 pub take-pair-spec : {M : Type 1} → statement M
-take-pair-spec = tie.close (tie.spec tally-of-requires lower-between-requires returns returns-2)
+take-pair-spec = tie.close (tie.spec (λ c κs. search needs) (λ c κs. search needs) returns (λ c. (λ e. refl, λ n. absurd (n (c .if1 .left)))))

@@ -16,25 +16,10 @@ Inv-loop table₀ list m a b i₀ table i = (i ≤ m) × Taking table₀ table a
 abbrev μ-loop : tie.MeasureT-loop
 μ-loop table₀ list m a b i₀ table i = m - i
 
-loop-holds : tie.Need-loop-holds Inv-loop μ-loop
-loop-holds c = (zero-le, row-start _ _ _ _ (c .pre .0) (none-listed _))
-
-element-copy-out-bone : tie.Need-element-copy-out-bone Inv-loop μ-loop
-element-copy-out-bone c = omega arith
-
-bone-requires : tie.Need-bone-requires Inv-loop μ-loop
-bone-requires c κs = search needs
-
 take-pair-requires : tie.Need-take-pair-requires Inv-loop μ-loop
 take-pair-requires c κs =
     let at = c .before .before .before .before in
     omega (arith, at .before .pre .4 .low (at .loop .i) (omega arith))
-
-add-i : tie.Need-add-i Inv-loop μ-loop
-add-i c = omega arith
-
-loop-less : tie.Need-loop-less Inv-loop μ-loop
-loop-less c = omega arith
 
 loop-again : tie.Need-loop-again Inv-loop μ-loop
 loop-again c =
@@ -61,11 +46,11 @@ take-row-spec =
     (tie.spec
     Inv-loop
     μ-loop
-    loop-holds
-    element-copy-out-bone
-    bone-requires
+    (λ c. (zero-le, row-start _ _ _ _ (c .pre .0) (none-listed _)))
+    (λ c. omega arith)
+    (λ c κs. search needs)
     take-pair-requires
-    add-i
-    loop-less
+    (λ c. omega arith)
+    (λ c. omega arith)
     loop-again
     returns)

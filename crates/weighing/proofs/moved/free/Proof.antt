@@ -16,23 +16,8 @@ Inv-loop order left marks₀ i₀ marks i = (i ≤ left) × (length marks ≡ 12
 abbrev μ-loop : tie.MeasureT-loop
 μ-loop order left marks₀ i₀ marks i = left - i
 
-loop-holds : tie.Need-loop-holds Inv-loop μ-loop
-loop-holds c = (zero-le, refl, free-start (c .args .order .now) 128)
-
-element-copy-out-bone : tie.Need-element-copy-out-bone Inv-loop μ-loop
-element-copy-out-bone c = omega (arith, c .before .before .pre .few)
-
-bone-requires : tie.Need-bone-requires Inv-loop μ-loop
-bone-requires c κs = search needs
-
 array-write-marks : tie.Need-array-write-marks Inv-loop μ-loop
 array-write-marks c = omega (arith, c .before .before .before .before .pre .low (c .before .before .before .loop .i) (c .before .before .loop-test .taken), c .bone .ensures .0)
-
-add-i : tie.Need-add-i Inv-loop μ-loop
-add-i c = omega arith
-
-loop-less : tie.Need-loop-less Inv-loop μ-loop
-loop-less c = omega arith
 
 loop-again : tie.Need-loop-again Inv-loop μ-loop
 loop-again c =
@@ -51,11 +36,11 @@ free-spec =
     (tie.spec
     Inv-loop
     μ-loop
-    loop-holds
-    element-copy-out-bone
-    bone-requires
+    (λ c. (zero-le, refl, free-start (c .args .order .now) 128))
+    (λ c. omega (arith, c .before .before .pre .few))
+    (λ c κs. search needs)
     array-write-marks
-    add-i
-    loop-less
+    (λ c. omega arith)
+    (λ c. omega arith)
     loop-again
     returns)

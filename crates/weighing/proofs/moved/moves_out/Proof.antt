@@ -8,23 +8,11 @@ use borrow.Author.Needs.{needs}
 use Rattle.weighing.proofs.moved.moves_out.Statement.{statement}
 use Rattle.weighing.proofs.moved.moves_out.Tie as tie
 
-element-copy-out-bone : tie.Need-element-copy-out-bone
-element-copy-out-bone c = search needs
-
-bone-requires : tie.Need-bone-requires
-bone-requires c κs = search needs
-
 returns : tie.Need-returns
 unfolding heapOf
 returns c =
     let a = c .before .before .before .args in
     sym (ap (λ (t : Bool). t && not (Bool·beq (marked (a .marks .now) (a .b)) (marked (a .marks .now) (a .p)))) (ne-eqb (heapOf (a .names .now) (a .b)) (a .p) (λ e. c .if1 .taken (c .before .bone .ensures .0 ∙ e))))
-
-element-copy-out-mark : tie.Need-element-copy-out-mark
-element-copy-out-mark c = search needs
-
-element-copy-out-home : tie.Need-element-copy-out-home
-element-copy-out-home c = search needs
 
 returns-2 : tie.Need-returns-2
 unfolding heapOf marked
@@ -37,9 +25,9 @@ pub moves-out-spec : {M : Type 1} → statement M
 moves-out-spec =
     tie.close
     (tie.spec
-    element-copy-out-bone
-    bone-requires
+    (λ c. search needs)
+    (λ c κs. search needs)
     returns
-    element-copy-out-mark
-    element-copy-out-home
+    (λ c. search needs)
+    (λ c. search needs)
     returns-2)

@@ -12,15 +12,6 @@ use Rattle.weighing.proofs.SideBits.{off-bit, bit-room, pow-small, powe
 use Rattle.weighing.proofs.moved.put.Statement.{statement}
 use Rattle.weighing.proofs.moved.put.Tie as tie
 
-element-copy-out-bone : tie.Need-element-copy-out-bone
-element-copy-out-bone c = search needs
-
-bone-requires : tie.Need-bone-requires
-bone-requires c κs = search needs
-
-shl-side : tie.Need-shl-side
-shl-side c = search needs
-
 add-side : tie.Need-add-side
 add-side c = let m = c .before .before .args .b % 8 in omega (arith, c .bone .ensures .1, power m (omega arith), pow-small m (omega arith))
 
@@ -29,9 +20,6 @@ cast-side c =
     let s = c .before .before in
     let m = s .args .b % 8 in
     omega (arith, c .bone .ensures, power m (omega arith), bit-room 8 m (c .bone .result) (omega arith) (c .bone .ensures .1) (rw (c .bone .ensures .0) (off-bit (s .args .side .now) (s .args .b) (s .pre .2))))
-
-element-write-side : tie.Need-element-write-side
-element-write-side c = search needs
 
 returns : tie.Need-returns
 returns c =
@@ -45,10 +33,10 @@ pub put-spec : {M : Type 1} → statement M
 put-spec =
     tie.close
     (tie.spec
-    element-copy-out-bone
-    bone-requires
-    shl-side
+    (λ c. search needs)
+    (λ c κs. search needs)
+    (λ c. search needs)
     add-side
     cast-side
-    element-write-side
+    (λ c. search needs)
     returns)

@@ -32,20 +32,11 @@ loop-holds c =
     let X = out (c .args .names .now) (c .args .p) (c .args .marks .now) in
     (zero-le, refl, λ x. side-none 16 x ∙ sym (ap (λ (t : Bool). t && X x) (not-nought x)))
 
-moves-out-requires : tie.Need-moves-out-requires Inv-loop μ-loop
-moves-out-requires c κs = omega arith
-
 put-requires : tie.Need-put-requires Inv-loop μ-loop
 put-requires c κs =
     let a = c .before .before .before .before .before .args in
     let l = c .before .before .before .before .loop in
     (omega arith, l .inv .1, fails (l .inv .2 (l .b) ∙ ap (λ (t : Bool). t && out (a .names .now) (a .p) (a .marks .now) (l .b)) (not-self (l .b))))
-
-add-b : tie.Need-add-b Inv-loop μ-loop
-add-b c = omega arith
-
-loop-less : tie.Need-loop-less Inv-loop μ-loop
-loop-less c = omega arith
 
 loop-again : tie.Need-loop-again Inv-loop μ-loop
 loop-again c =
@@ -77,9 +68,9 @@ side-of-spec =
     Inv-loop
     μ-loop
     loop-holds
-    moves-out-requires
+    (λ c κs. omega arith)
     put-requires
-    add-b
-    loop-less
+    (λ c. omega arith)
+    (λ c. omega arith)
     loop-again
     returns)

@@ -17,24 +17,12 @@ Inv-loop order left list into count size marks₀ j₀ marks j = (count ≤ j) �
 abbrev μ-loop : tie.MeasureT-loop
 μ-loop order left list into count size marks₀ j₀ marks j = size - j
 
-free-requires : tie.Need-free-requires Inv-loop μ-loop
-free-requires c κs = search needs
-
 loop-holds : tie.Need-loop-holds Inv-loop μ-loop
 loop-holds c =
     (omega arith, omega (arith, c .before .pre .0 .2), record { long = c .free .ensures .0; led = λ b t. c .free .ensures .1 b; same = λ j l h. absurd (omega arith) })
 
-element-copy-out-bone : tie.Need-element-copy-out-bone Inv-loop μ-loop
-element-copy-out-bone c = omega (arith, c .before .before .before .pre .0 .1 .few)
-
-bone-requires : tie.Need-bone-requires Inv-loop μ-loop
-bone-requires c κs = search needs
-
 element-copy-out-bone-2 : tie.Need-element-copy-out-bone-2 Inv-loop μ-loop
 element-copy-out-bone-2 c = omega (arith, c .before .before .before .before .before .pre .0 .1 .few)
-
-bone-requires-2 : tie.Need-bone-requires-2 Inv-loop μ-loop
-bone-requires-2 c κs = search needs
 
 array-read-marks : tie.Need-array-read-marks Inv-loop μ-loop
 array-read-marks c =
@@ -45,12 +33,6 @@ array-read-marks c =
 array-write-marks : tie.Need-array-write-marks Inv-loop μ-loop
 array-write-marks c =
     omega (arith, c .before .before .bone .ensures .0, c .before .before .before .before .before .before .before .pre .0 .1 .low (c .before .before .before .before .before .loop .j) (c .before .before .before .before .loop-test .taken))
-
-add-j : tie.Need-add-j Inv-loop μ-loop
-add-j c = omega arith
-
-loop-less : tie.Need-loop-less Inv-loop μ-loop
-loop-less c = omega arith
 
 loop-again : tie.Need-loop-again Inv-loop μ-loop
 loop-again c =
@@ -73,15 +55,15 @@ spread-spec =
     (tie.spec
     Inv-loop
     μ-loop
-    free-requires
+    (λ c κs. search needs)
     loop-holds
-    element-copy-out-bone
-    bone-requires
+    (λ c. omega (arith, c .before .before .before .pre .0 .1 .few))
+    (λ c κs. search needs)
     element-copy-out-bone-2
-    bone-requires-2
+    (λ c κs. search needs)
     array-read-marks
     array-write-marks
-    add-j
-    loop-less
+    (λ c. omega arith)
+    (λ c. omega arith)
     loop-again
     returns)

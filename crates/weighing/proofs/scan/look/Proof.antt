@@ -12,21 +12,6 @@ use Rattle.weighing.specs.Scan.{near}
 use Rattle.weighing.proofs.scan.look.Statement.{statement}
 use Rattle.weighing.proofs.scan.look.Tie as tie
 
-element-copy-out-bone : tie.Need-element-copy-out-bone
-element-copy-out-bone c = search needs
-
-bone-requires : tie.Need-bone-requires
-bone-requires c κs = search needs
-
-mul-near : tie.Need-mul-near
-mul-near c = search needs
-
-element-copy-out-near : tie.Need-element-copy-out-near
-element-copy-out-near c = search needs
-
-tally-between-requires : tie.Need-tally-between-requires
-tally-between-requires c κs = search needs
-
 -- the bone in place i, and the tally of u with it
 bone-is : (c : tie.After-tally-between) → c .before .before .bone .result ≡ getD (c .before .before .before .before .args .order .now) (c .before .before .before .before .args .i) 0
 bone-is c = c .before .before .bone .ensures .0
@@ -47,15 +32,6 @@ tied-small : (c : tie.After-tally-between) → getD (c .before .before .before .
 tied-small c =
     let s = c .before .before .before .before in
     subst (λ (x : ℕ). getD (s .args .attach .now) x 0 ≤ 2 ^ 40) (sym (bone-is c)) (s .pre .1 .0)
-
-add-near : tie.Need-add-near
-add-near c = omega (arith, tied-small c, c .tally-between .ensures .1)
-
-mul-attach : tie.Need-mul-attach
-mul-attach c = search needs
-
-element-write-attach : tie.Need-element-write-attach
-element-write-attach c = search needs
 
 add-out : tie.Need-add-out
 add-out c = omega (arith, tied-small (c .before), c .before .tally-between .ensures .1, c .before .before .before .before .before .pre .1 .1)
@@ -89,14 +65,14 @@ pub look-spec : {M : Type 1} → statement M
 look-spec =
     tie.close
     (tie.spec
-    element-copy-out-bone
-    bone-requires
-    mul-near
-    element-copy-out-near
-    tally-between-requires
-    add-near
-    mul-attach
-    element-write-attach
+    (λ c. search needs)
+    (λ c κs. search needs)
+    (λ c. search needs)
+    (λ c. search needs)
+    (λ c κs. search needs)
+    (λ c. omega (arith, tied-small c, c .tally-between .ensures .1))
+    (λ c. search needs)
+    (λ c. search needs)
     add-out
     returns
     returns-2)

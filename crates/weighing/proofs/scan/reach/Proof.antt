@@ -16,9 +16,6 @@ Inv-loop table order left u attach₀ got₀ i₀ attach got i = (i ≤ left) ×
 abbrev μ-loop : tie.MeasureT-loop
 μ-loop table order left u attach₀ got₀ i₀ attach got i = left - i
 
-loop-holds : tie.Need-loop-holds Inv-loop μ-loop
-loop-holds c = (zero-le, reached-start _ _ _ _ (c .pre .2))
-
 look-requires : tie.Need-look-requires Inv-loop μ-loop
 look-requires c κs =
     let s = c .before .before .before in
@@ -27,12 +24,6 @@ look-requires c κs =
       (s .pre .0, omega (arith, s .pre .1 .few), s .pre .1 .low (l .i) here, l .inv .1 .long),
       (omega (arith, reached-fresh (l .inv .1) (s .pre .1) here, s .pre .3 (getD (s .args .order .now) (l .i) 0)), omega (arith, l .inv .1 .most, s .pre .1 .few)),
     )
-
-add-i : tie.Need-add-i Inv-loop μ-loop
-add-i c = omega arith
-
-loop-less : tie.Need-loop-less Inv-loop μ-loop
-loop-less c = omega arith
 
 loop-again : tie.Need-loop-again Inv-loop μ-loop
 loop-again c =
@@ -48,4 +39,4 @@ returns c =
     subst (λ (m : ℕ). Reached (held (a .table .now)) (a .order .now) (a .u) m (a .attach .now) (l .attach) (l .got .place) (l .got .top) (l .got .out)) all (l .inv .1)
 
 pub reach-spec : {M : Type 1} → statement M
-reach-spec = tie.close (tie.spec Inv-loop μ-loop loop-holds look-requires add-i loop-less loop-again returns)
+reach-spec = tie.close (tie.spec Inv-loop μ-loop (λ c. (zero-le, reached-start _ _ _ _ (c .pre .2))) look-requires (λ c. omega arith) (λ c. omega arith) loop-again returns)

@@ -27,12 +27,6 @@ take-requires c κs =
     let i = c .before .loop .inv in
     (i .next, omega (arith, i .few, i .once .few), i .once .long)
 
-sub-left : tie.Need-sub-left Inv-loop μ-loop
-sub-left c = omega (arith, c .before .before .loop .inv .next)
-
-mark-requires : tie.Need-mark-requires Inv-loop μ-loop
-mark-requires c κs = tt
-
 element-write-joins : tie.Need-element-write-joins Inv-loop μ-loop
 element-write-joins c =
     let i = c .before .before .before .loop .inv in
@@ -107,8 +101,8 @@ scan-spec =
     μ-loop
     loop-holds
     take-requires
-    sub-left
-    mark-requires
+    (λ c. omega (arith, c .before .before .loop .inv .next))
+    (λ c κs. tt)
     element-write-joins
     returns
     reach-requires

@@ -118,9 +118,6 @@ lit m = m .before .before .before .before .if3 .taken
 
 -- ---- what is left to show
 
-at-most-requires : tie.Need-at-most-requires Inv-passes μ-passes Inv-piles μ-piles
-at-most-requires c κs = tt
-
 piles-holds : tie.Need-piles-holds Inv-passes μ-passes Inv-piles μ-piles
 piles-holds c = piling-start (c .at-most .result) (c .before .args .k) (c .before .args .names .now) (c .before .args .from) (c .before .args .table .now)
 
@@ -130,17 +127,8 @@ returns c =
     let s = q .before .before in
     (q .piles .inv .same, searched-none (q .piles .inv) (c .if1 .taken) (min (s .args .n) 128) (q .before .at-most .ensures) _ refl refl refl refl)
 
-element-copy-out-bone : tie.Need-element-copy-out-bone Inv-passes μ-passes Inv-piles μ-piles
-element-copy-out-bone c = omega (arith, few (c .before .before), c .if1 .left)
-
-bone-requires : tie.Need-bone-requires Inv-passes μ-passes Inv-piles μ-piles
-bone-requires c κs = tt
-
 add-p : tie.Need-add-p Inv-passes μ-passes Inv-piles μ-piles
 add-p c = omega (arith, c .before .before .before .if1 .left, few (c .before .before .before .before .before))
-
-piles-less : tie.Need-piles-less Inv-passes μ-passes Inv-piles μ-piles
-piles-less c = omega (arith, c .before .before .before .if1 .left)
 
 piles-again : tie.Need-piles-again Inv-passes μ-passes Inv-piles μ-piles
 piles-again c =
@@ -271,13 +259,13 @@ search-spec =
     μ-passes
     Inv-piles
     μ-piles
-    at-most-requires
+    (λ c κs. tt)
     piles-holds
     returns
-    element-copy-out-bone
-    bone-requires
+    (λ c. omega (arith, few (c .before .before), c .if1 .left))
+    (λ c κs. tt)
     add-p
-    piles-less
+    (λ c. omega (arith, c .before .before .before .if1 .left))
     piles-again
     gather-requires
     passes-holds
