@@ -23,7 +23,7 @@ use Rattle.pairs.specs.Weigh.{offSide, rowOf}
 use Rattle.pairs.proofs.Sides.{pile-below, rows, weight-rows}
 use Rattle.weighing.proofs.Noting.{noughts}
 use Rattle.weighing.specs.Lists.{marked}
-use Rattle.weighing.specs.Degrees.{toward, mate, degree, joined, moves, Loosed}
+use Rattle.weighing.specs.Degrees.{toward, others, mate, degree, joined, moves, Loosed}
 use Rattle.weighing.specs.Search.{cutOf}
 use Rattle.weighing.specs.declared.search.Split.{Split}
 
@@ -38,7 +38,7 @@ sum-at n m f h = sum-ext n _ (λ b. cond (eqb b m) (f m) 0) (λ b l. same (eqb b
 module _ (n : ℕ) (w : Tally) (h : Heap) (u : ℕ) (low : u < n) where
   -- a bone against the rest of its pile weighs its degree
   lone-weight : degree n w h u ≡ weight n w (pile n h (h u)) (λ b. eqb b u)
-  unfolding degree toward mate rows rowOf offSide
+  unfolding degree toward mate others rows rowOf offSide
   lone-weight =
       sym
       (weight-rows n w (pile n h (h u)) (λ b. eqb b u)
@@ -53,7 +53,7 @@ module _ (n : ℕ) (w : Tally) (h : Heap) (u : ℕ) (low : u < n) where
 
   -- all others against it weigh the same
   moves-weight : Symmetric w → degree n w h u ≡ weight n w (pile n h (h u)) (moves n h u)
-  unfolding moves mate pile
+  unfolding moves mate others pile
   moves-weight symmetric = by-name (eqb (h u) u)
     where
       regroup : (a b c : Bool) → ((a && b) && c) ≡ (a && (b && c))
@@ -77,7 +77,7 @@ module _ (n : ℕ) (w : Tally) (h : Heap) (u : ℕ) (low : u < n) where
       by-name false = some-intro n _ u low (eqb-refl u)
 
   moves-stay : T (not (moves n h u (h u)))
-  unfolding moves mate
+  unfolding moves mate others
   moves-stay = by-name (eqb (h u) u) (λ t. t) (λ t. t)
     where
       by-name : (t : Bool) → (T (not t) → T (not (eqb (h u) u))) → (T t → T (eqb (h u) u)) → T (not (cond t (ltb (h u) n && (eqb (h (h u)) (h u) && not (eqb (h u) u))) (eqb (h u) u)))
@@ -85,7 +85,7 @@ module _ (n : ℕ) (w : Tally) (h : Heap) (u : ℕ) (low : u < n) where
       by-name false f g = f tt
 
   moves-within : (b : ℕ) → T (moves n h u b) → T (pile n h (h u) b)
-  unfolding moves mate pile
+  unfolding moves mate others pile
   moves-within b = by-name (eqb (h u) u)
     where
       by-name : (t : Bool) → T (cond t (ltb b n && (eqb (h b) (h u) && not (eqb b u))) (eqb b u)) → T (ltb b n && eqb (h b) (h u))
@@ -161,7 +161,7 @@ one-mark u b s low = ⊎-elim here there (decide (eqb b u))
     there t = ap (λ (x : ℕ). eqb x 1) (getD-set-other (replicate s 0) u b 1 0 (neqb→ne b u t) ∙ noughts s b) ∙ sym (is-false (eqb b u) t)
 
 pub others-side : (n : ℕ) (h : Heap) (u b s : ℕ) → u < length {A = ℕ} (replicate s 0) → h u ≡ u → (pile n h u b && not (Bool·beq (marked (set (replicate s 0) u 1) b) (marked (set (replicate s 0) u 1) u))) ≡ (ltb b n && mate h u b)
-unfolding pile mate
+unfolding pile mate others
 others-side n h u b s low named =
     ap₂ (λ (x y : Bool). (ltb b n && eqb (h b) u) && not (Bool·beq x y)) (one-mark u b s low) (one-mark u u s low ∙ is-true (eqb u u) (eq→eqb u u refl))
     ∙ tests (ltb b n) (eqb (h b) u) (eqb b u)

@@ -16,8 +16,7 @@ use Rattle.meaning.specs.Heap.{Heap, pile}
 use Rattle.meaning.proofs.Tests.{decide, is-true, is-false, same-test, eq→eqb, neqb→ne, ne→neqb}
 use Rattle.meaning.proofs.Sums.{sum-next}
 use Rattle.meaning.proofs.Totals.{Symmetric}
-use Rattle.pairs.proofs.Sides.{pile-below}
-use Rattle.weighing.specs.Degrees.{toward, mate, degree, Noted, share, lost, Notes, Lessened, shareBy, joined, without}
+use Rattle.weighing.specs.Degrees.{toward, others, mate, degree, Noted, share, parting, lost, Notes, Lessened, joined, without}
 
 pub toward-none : (w : Tally) (S : Bones) (b : ℕ) → toward 0 w S b ≡ 0
 unfolding toward sum
@@ -39,29 +38,24 @@ eqb-turn a b =
     same-test _ _ (λ t. eq→eqb b a (sym (eqb→eq a b t))) (λ t. eq→eqb a b (sym (eqb→eq b a t)))
 
 mate-turn : (h : Heap) (a b : ℕ) → mate h a b ≡ mate h b a
-unfolding mate
+unfolding mate others
 mate-turn h a b = ap₂ (λ (s t : Bool). s && not t) (eqb-turn (h b) (h a)) (eqb-turn b a)
 
--- no bone is its own mate; any other bone of that name is one
-pub mate-none : (h : Heap) (u c : ℕ) → c ≡ u → mate h u c ≡ false
-unfolding mate
-mate-none h u c e = ap (λ (t : Bool). eqb (h c) (h u) && not t) (is-true (eqb c u) (eq→eqb c u e)) ∙ and-false (eqb (h c) (h u))
+pub others-self : (h : Heap) (y b c : ℕ) → c ≡ b → others h y b c ≡ false
+unfolding others
+others-self h y b c e = ap (λ (t : Bool). eqb (h c) y && not t) (is-true (eqb c b) (eq→eqb c b e)) ∙ and-false (eqb (h c) y)
   where
     and-false : (t : Bool) → (t && false) ≡ false
     and-false true = refl
     and-false false = refl
 
-pub mate-other : (h : Heap) (u c : ℕ) → (c ≡ u → ⊥) → mate h u c ≡ eqb (h c) (h u)
-unfolding mate
-mate-other h u c f = ap (λ (t : Bool). eqb (h c) (h u) && not t) (is-false (eqb c u) (ne→neqb c u f)) ∙ and-true (eqb (h c) (h u))
+pub others-named : (h : Heap) (y b c : ℕ) → (c ≡ b → ⊥) → others h y b c ≡ eqb (h c) y
+unfolding others
+others-named h y b c f = ap (λ (t : Bool). eqb (h c) y && not t) (is-false (eqb c b) (ne→neqb c b f)) ∙ and-true (eqb (h c) y)
   where
     and-true : (t : Bool) → (t && true) ≡ t
     and-true true = refl
     and-true false = refl
-
-pub mate-stranger : (h : Heap) (u c : ℕ) → (h c ≡ h u → ⊥) → mate h u c ≡ false
-unfolding mate
-mate-stranger h u c f = ap (λ (t : Bool). t && not (eqb c u)) (is-false (eqb (h c) (h u)) (ne→neqb (h c) (h u) f))
 
 -- below i + 1 is below i, except at i
 pub ltb-skip : (b i : ℕ) → (b ≡ i → ⊥) → ltb b i ≡ ltb b (i + 1)
@@ -115,11 +109,11 @@ module _ (w : Tally) (symmetric : Symmetric w) (h : Heap) (i : ℕ) (low : i < 1
   -- bone i comes in: d holds what the bones before it have then, and own is its own degree
   pub noted-next : {notes : List ℕ} (d : List ℕ) (own : ℕ) → Noted i w h notes → length d ≡ 128 → own ≡ toward i w (mate h i) i % 2 ^ 32
       → ((b : ℕ) → getD d b 0 ≡ cond (ltb b i) ((getD notes b 0 + cond (mate h i b) (w i b) 0) % 2 ^ 32) (getD notes b 0)) → Noted (i + 1) w h (set d i own)
-  unfolding degree
+  unfolding degree mate
   noted-next {notes} d own before long sums so =
       noted (length-set d i own ∙ long)
       (store-next (λ b. degree (i + 1) w h b % 2 ^ 32) (λ b. 0) d i own (omega arith)
-      (λ _. sums ∙ ap (λ (x : ℕ). x % 2 ^ 32) (sym (toward-next i w (mate h i) i ∙ ap (λ (x : ℕ). toward i w (mate h i) i + x) (ap (λ (t : Bool). cond t (w i i) 0) (mate-none h i i refl)) ∙ add-zero _)))
+      (λ _. sums ∙ ap (λ (x : ℕ). x % 2 ^ 32) (sym (toward-next i w (mate h i) i ∙ ap (λ (x : ℕ). toward i w (mate h i) i + x) (ap (λ (t : Bool). cond t (w i i) 0) (others-self h (h i) i i refl)) ∙ add-zero _)))
       (λ b. so b ∙ grown b (ltb b i) (before .each b)))
     where
       grown : (b : ℕ) (t : Bool) → getD notes b 0 ≡ cond t (degree i w h b % 2 ^ 32) 0 → cond t ((getD notes b 0 + cond (mate h i b) (w i b) 0) % 2 ^ 32) (getD notes b 0) ≡ cond t (degree (i + 1) w h b % 2 ^ 32) 0
@@ -178,71 +172,61 @@ less-at {f} {d} {d′} i x v low fits e so =
     there b t = getD-set-other d′ i b v 0 (neqb→ne b i t)
 
 module _ (w : Tally) (S : Bones) (b : ℕ) where
-  pub share-none : (c : ℕ) → 0 ≡ shareBy 0 w S b c
-  unfolding shareBy
+  pub share-none : (c : ℕ) → 0 ≡ share 0 w S b c
+  unfolding share
   share-none c = sym (upto-none _ c)
 
-  pub share-next : (i c : ℕ) → shareBy i w S b c + cond (eqb c i) (cond (S i) (w b i) 0) 0 ≡ shareBy (i + 1) w S b c
-  unfolding shareBy
+  pub share-next : (i c : ℕ) → share i w S b c + cond (eqb c i) (cond (S i) (w b i) 0) 0 ≡ share (i + 1) w S b c
+  unfolding share
   share-next i c = sym (upto-next (λ c. cond (S c) (w b c) 0) i c)
 
-module _ (w : Tally) (n : ℕ) (h : Heap) (y b : ℕ) where
-  pub share-term : (c : ℕ) → c < n → cond (eqb (h c) y) (w b c) 0 ≡ cond (pile n h y c) (w b c) 0
-  share-term c l = ap (λ (t : Bool). cond t (w b c) 0) (sym (pile-below n h y c l))
+-- what is lost once the bones below i that bear the name x have left those of y
+unfoldable pub lostBy : ℕ → ℕ → Tally → Heap → ℕ → ℕ → ℕ → ℕ
+lostBy i n w h x y b = cond (ltb b i) (cond (eqb (h b) x) (toward n w (others h y b) b) 0) 0 + cond (pile n h y b) (toward i w (others h x b) b) 0
 
-  pub share-all : (c : ℕ) → shareBy n w (pile n h y) b c + cond (eqb c b) (toward n w (pile n h y) b) 0 ≡ share n w (pile n h y) b c
-  unfolding shareBy share pile
-  share-all c = ap (λ (x : ℕ). x + cond (eqb c b) (toward n w (pile n h y) b) 0) (twice (ltb c n) (eqb (h c) y))
+module _ (n : ℕ) (w : Tally) (h : Heap) (x y : ℕ) where
+  nought : (t : Bool) {m : ℕ} → m ≡ 0 → cond t m 0 ≡ 0
+  nought true e = e
+  nought false e = refl
+
+  pub lost-none : (b : ℕ) → 0 ≡ lostBy 0 n w h x y b
+  unfolding lostBy
+  lost-none b = sym (ap₂ _+_ (upto-none _ b) (nought (pile n h y b) (toward-none w (others h x b) b)))
+
+  -- bone i is gone through: what it takes if it bears the name
+  gone : (i b : ℕ) → lostBy (i + 1) n w h x y b ≡ lostBy i n w h x y b + (cond (eqb b i) (cond (eqb (h i) x) (toward n w (others h y i) i) 0) 0 + cond (pile n h y b) (cond (others h x b i) (w b i) 0) 0)
+  unfolding lostBy
+  gone i b =
+      omega (arith, upto-next (λ b. cond (eqb (h b) x) (toward n w (others h y b) b) 0) i b, more (pile n h y b))
     where
-      twice : (s t : Bool) → cond s (cond (s && t) (w b c) 0) 0 ≡ cond (s && t) (w b c) 0
+      more : (t : Bool) → cond t (toward (i + 1) w (others h x b) b) 0 ≡ cond t (toward i w (others h x b) b) 0 + cond t (cond (others h x b i) (w b i) 0) 0
+      more true = toward-next i w (others h x b) b
+      more false = refl
+
+  pub lost-next : Symmetric w → (i : ℕ) → h i ≡ x → (b : ℕ) → lostBy i n w h x y b + parting n w (others h y i) i b ≡ lostBy (i + 1) n w h x y b
+  unfolding parting share others pile
+  lost-next symmetric i named b =
+      let on = is-true (eqb (h i) x) (eq→eqb (h i) x named) in
+      omega (arith, gone i b, ap (λ (t : Bool). cond (eqb b i) (cond t (toward n w (others h y i) i) 0) 0) on, tests (ltb b n) (eqb (h b) y) on (eqb-turn b i) (symmetric i b))
+    where
+      tests : (l e : Bool) {s q q′ : Bool} {m m′ : ℕ} → s ≡ true → q ≡ q′ → m ≡ m′ → cond l (cond (e && not q) m 0) 0 ≡ cond (l && e) (cond (s && not q′) m′ 0) 0
+      tests true true p r t = rw (p, r, t)
+      tests true false p r t = refl
+      tests false e p r t = refl
+
+  pub lost-skip : (i : ℕ) → (h i ≡ x → ⊥) → (b : ℕ) → lostBy i n w h x y b ≡ lostBy (i + 1) n w h x y b
+  unfolding others
+  lost-skip i f b =
+      let off = is-false (eqb (h i) x) (ne→neqb (h i) x f) in
+      omega (arith, gone i b, ap (λ (t : Bool). cond (eqb b i) (cond t (toward n w (others h y i) i) 0) 0) off ∙ nought (eqb b i) refl, ap (λ (t : Bool). cond (pile n h y b) (cond (t && not (eqb i b)) (w b i) 0) 0) off ∙ nought (pile n h y b) refl)
+
+  pub lost-all : (b : ℕ) → lostBy n n w h x y b ≡ lost n w h x y b
+  unfolding lostBy lost pile
+  lost-all b = ap (λ (m : ℕ). m + cond (pile n h y b) (toward n w (others h x b) b) 0) (twice (ltb b n) (eqb (h b) x))
+    where
+      twice : (s t : Bool) → cond s (cond t (toward n w (others h y b) b) 0) 0 ≡ cond (s && t) (toward n w (others h y b) b) 0
       twice true t = refl
       twice false t = refl
-
--- what is lost once the bones of X below i have left those of Y
-unfoldable pub lostBy : ℕ → ℕ → Tally → Bones → Bones → ℕ → ℕ
-lostBy i n w X Y b = cond (ltb b i) (cond (X b) (toward n w Y b) 0) 0 + cond (Y b) (toward i w X b) 0
-
-module _ (n : ℕ) (w : Tally) (X Y : Bones) where
-  pub lost-none : (b : ℕ) → 0 ≡ lostBy 0 n w X Y b
-  unfolding lostBy
-  lost-none b = sym (ap₂ _+_ (upto-none _ b) (nought (Y b) (toward-none w X b)))
-    where
-      nought : (t : Bool) {x : ℕ} → x ≡ 0 → cond t x 0 ≡ 0
-      nought true e = e
-      nought false e = refl
-
-  module _ (symmetric : Symmetric w) (i : ℕ) where
-    pub lost-next : T (X i) → (b : ℕ) → lostBy i n w X Y b + share n w Y i b ≡ lostBy (i + 1) n w X Y b
-    unfolding lostBy share
-    lost-next t b =
-        let on = is-true (X i) t in
-        omega (arith, upto-next (λ b. cond (X b) (toward n w Y b) 0) i b, ap (λ (s : Bool). cond (eqb b i) (cond s (toward n w Y i) 0) 0) on, more (Y b) on)
-      where
-        more : (s : Bool) → X i ≡ true → cond s (toward (i + 1) w X b) 0 ≡ cond s (toward i w X b) 0 + cond s (w i b) 0
-        more true e = toward-next i w X b ∙ ap (λ (x : ℕ). toward i w X b + x) (ap (λ (t : Bool). cond t (w b i) 0) e ∙ symmetric b i)
-        more false e = refl
-
-    pub lost-skip : T (not (X i)) → (b : ℕ) → lostBy i n w X Y b ≡ lostBy (i + 1) n w X Y b
-    unfolding lostBy
-    lost-skip t b =
-        let off = is-false (X i) t in
-        omega (arith, upto-next (λ b. cond (X b) (toward n w Y b) 0) i b, ap (λ (s : Bool). cond (eqb b i) (cond s (toward n w Y i) 0) 0) off ∙ idle (eqb b i), less (Y b) off)
-      where
-        idle : (s : Bool) → _≡_ {A = ℕ} (cond s 0 0) 0
-        idle true = refl
-        idle false = refl
-
-        less : (s : Bool) → X i ≡ false → cond s (toward (i + 1) w X b) 0 ≡ cond s (toward i w X b) 0
-        less true e = toward-next i w X b ∙ ap (λ (x : ℕ). toward i w X b + x) (ap (λ (t : Bool). cond t (w b i) 0) e) ∙ add-zero _
-        less false e = refl
-
-pub lost-all : (n : ℕ) (w : Tally) (h : Heap) (x y b : ℕ) → lostBy n n w (pile n h x) (pile n h y) b ≡ lost n w h x y b
-unfolding lostBy lost pile
-lost-all n w h x y b = ap (λ (z : ℕ). z + cond (pile n h y b) (toward n w (pile n h x) b) 0) (twice (ltb b n) (eqb (h b) x))
-  where
-    twice : (s t : Bool) → cond s (cond (s && t) (toward n w (pile n h y) b) 0) 0 ≡ cond (s && t) (toward n w (pile n h y) b) 0
-    twice true t = refl
-    twice false t = refl
 
 -- it is the same which of the two piles is said first
 pub lost-turn : (n : ℕ) (w : Tally) (h : Heap) (x y b : ℕ) → lost n w h y x b ≡ lost n w h x y b
@@ -250,10 +234,10 @@ unfolding lost
 lost-turn n w h x y b = omega arith
 
 -- a bone that is parted takes its part from each other of its pile; one that has no pile with others takes nothing
-pub without-mates : (n : ℕ) (w : Tally) (h : Heap) (u c : ℕ) → joined n h u ≡ true → shareBy n w (mate h u) u c ≡ without n w h u c
+pub without-mates : (n : ℕ) (w : Tally) (h : Heap) (u c : ℕ) → joined n h u ≡ true → share n w (mate h u) u c ≡ without n w h u c
 unfolding without
-without-mates n w h u c e = sym (ap (λ (t : Bool). cond t (shareBy n w (mate h u) u c) 0) e)
+without-mates n w h u c e = sym (ap (λ (t : Bool). cond t (share n w (mate h u) u c) 0) e)
 
 pub without-none : (n : ℕ) (w : Tally) (h : Heap) (u c : ℕ) → joined n h u ≡ false → 0 ≡ without n w h u c
 unfolding without
-without-none n w h u c e = sym (ap (λ (t : Bool). cond t (shareBy n w (mate h u) u c) 0) e)
+without-none n w h u c e = sym (ap (λ (t : Bool). cond t (share n w (mate h u) u c) 0) e)

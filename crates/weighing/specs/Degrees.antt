@@ -16,9 +16,13 @@ use Rattle.weighing.specs.Search.{cutOf}
 unfoldable pub toward : ℕ → Tally → Bones → ℕ → ℕ
 toward n w S b = sum n (λ c. cond (S c) (w b c) 0)
 
--- c is another bone than b, of the same pile
+-- the bones that bear the name y, without b
+unfoldable pub others : Heap → ℕ → ℕ → Bones
+others h y b c = eqb (h c) y && not (eqb c b)
+
+-- the other bones of b's pile
 unfoldable pub mate : Heap → ℕ → Bones
-mate h b c = eqb (h c) (h b) && not (eqb c b)
+mate h b = others h (h b) b
 
 unfoldable pub degree : ℕ → Tally → Heap → ℕ → ℕ
 degree n w h b = toward n w (mate h b) b
@@ -34,16 +38,16 @@ pub record Noted (n : ℕ) (w : Tally) (h : Heap) (degrees : List ℕ) : Type 0 
   pub each : (b : ℕ) → getD degrees b 0 ≡ cond (ltb b n) (degree n w h b % 2 ^ 32) 0
 
 -- what bone c, if it is one of those of S below n, loses when b leaves them
-unfoldable pub shareBy : ℕ → Tally → Bones → ℕ → ℕ → ℕ
-shareBy n w S b c = cond (ltb c n) (cond (S c) (w b c) 0) 0
-
--- what bone c loses when bone b leaves the bones of S: c its tally with b where it is of S, and b its tally with all of S
 unfoldable pub share : ℕ → Tally → Bones → ℕ → ℕ → ℕ
-share n w S b c = cond (S c) (w b c) 0 + cond (eqb c b) (toward n w S b) 0
+share n w S b c = cond (ltb c n) (cond (S c) (w b c) 0) 0
+
+-- and where b, in return, loses its tally with all of them
+unfoldable pub parting : ℕ → Tally → Bones → ℕ → ℕ → ℕ
+parting n w S b c = share n w S b c + cond (eqb c b) (toward n w S b) 0
 
 -- what bone b loses when the piles named x and y come apart: its tally with the bones of the other
 unfoldable pub lost : ℕ → Tally → Heap → ℕ → ℕ → ℕ → ℕ
-lost n w h x y b = cond (pile n h x b) (toward n w (pile n h y) b) 0 + cond (pile n h y b) (toward n w (pile n h x) b) 0
+lost n w h x y b = cond (pile n h x b) (toward n w (others h y b) b) 0 + cond (pile n h y b) (toward n w (others h x b) b) 0
 
 -- each note lost what `less` says: with that added, the carry of 32 bits thrown away, it is what it was. So one that lost nothing is as it was.
 pub record Lessened (less : ℕ → ℕ) (before after : List ℕ) : Type 0 where
@@ -56,7 +60,7 @@ joined n h u = ltb u n && (stands n h (h u) && some n (mate h u))
 
 -- what bone c loses when bone u is parted from its pile, where that stands and has another bone
 unfoldable pub without : ℕ → Tally → Heap → ℕ → ℕ → ℕ
-without n w h u c = cond (joined n h u) (shareBy n w (mate h u) u c) 0
+without n w h u c = cond (joined n h u) (share n w (mate h u) u c) 0
 
 -- whether a cut below k parts bone u from the rest of its pile
 unfoldable pub loose : ℕ → Tally → ℕ → Heap → ℕ → Bool

@@ -15,7 +15,7 @@ ghost use Rattle.meaning.specs.Count.{some};
 ghost use Rattle.meaning.specs.Heap.{pile};
 ghost use Rattle.pairs.specs.Table.{held};
 ghost use Rattle.pairs.specs.Side.{heapOf, sideOf};
-ghost use Rattle.weighing.specs.Degrees.{mate, degree, Noted, share, lost, Notes, Lessened, joined, loose, moves, Loosed, shareBy, without};
+ghost use Rattle.weighing.specs.Degrees.{others, mate, toward, Noted, Notes, share, parting, lost, Lessened, joined, loose, moves, Loosed, without};
 
 fn at_most_128(n: usize) -> usize
     ensures { λ r. ⌜ (r ≡ min n 128) × (r ≤ 128) ⌝ }
@@ -66,19 +66,49 @@ pub fn degrees(table: &[u32; 16384], names: &[u8; 128], n: usize) -> [u32; 128]
     degrees
 }
 
-// The tally of bone b with bone c, if c is of the pile of that name.
-fn toward_one(table: &[u32; 16384], names: &[u8; 128], name: u8, b: usize, c: usize) -> u64
-    requires { ⌜ (b < 128) × (c < 128) ⌝ }
-    ensures { λ r. ⌜ (r ≡ cond (eqb (heapOf (now (names .entry)) c) name) (held (now (table .entry)) b c) 0) × (r < 2 ^ 32) ⌝ }
+// Whether bone c bears the name and is another bone than b.
+fn is_other(names: &[u8; 128], name: u8, b: usize, c: usize) -> bool
+    requires { ⌜ c < 128 ⌝ }
+    ensures { λ r. ⌜ r ≡ others (heapOf (now (names .entry))) name b c ⌝ }
 {
-    if names[c] == name {
+    if c == b { false } else { names[c] == name }
+}
+
+// The tally of bone b with bone c, if that bears the name and is another bone.
+fn tally_with(table: &[u32; 16384], names: &[u8; 128], name: u8, b: usize, c: usize) -> u64
+    requires { ⌜ (b < 128) × (c < 128) ⌝ }
+    ensures { λ r. ⌜ (r ≡ cond (others (heapOf (now (names .entry))) name b c) (held (now (table .entry)) b c) 0) × (r < 2 ^ 32) ⌝ }
+{
+    if is_other(names, name, b, c) {
         tally_between(table, b, c)
     } else {
         0
     }
 }
 
-// Bone b leaves the pile named y: their tallies are taken out of the degrees of its bones, and the sum of them out of that of b.
+// The tally of bone b with the other bones that bear the name, each of which loses its part of it.
+fn take_out(
+    table: &[u32; 16384],
+    names: &[u8; 128],
+    n: usize,
+    name: u8,
+    b: usize,
+    degrees: &mut [u32; 128],
+) -> u64
+    requires { ⌜ (n ≤ 128) × (b < 128) ⌝ }
+    ensures { λ r. ⌜ r ≡ toward n (held (now (table .entry))) (others (heapOf (now (names .entry))) name b) b ⌝ }
+    ensures { λ _. ⌜ (Notes (now (degrees .entry)) → Lessened (share n (held (now (table .entry))) (others (heapOf (now (names .entry))) name b) b) (now (degrees .entry)) (now (degrees .exit))) ⌝ }
+{
+    let mut total: u64 = 0;
+    for c in 0..n {
+        let tally = tally_with(table, names, name, b, c);
+        total += tally;
+        degrees[c] = std::num::wrapping_sub_u32(degrees[c], tally as u32);
+    }
+    total
+}
+
+// Bone b leaves the pile named y: each bone there loses its tally with b, and b the sum of them.
 fn part(
     table: &[u32; 16384],
     names: &[u8; 128],
@@ -88,15 +118,10 @@ fn part(
     degrees: &mut [u32; 128],
 )
     requires { ⌜ (n ≤ 128) × (b < 128) ⌝ }
-    ensures { λ _. ⌜ (Notes (now (degrees .entry)) → Lessened (share n (held (now (table .entry))) (pile n (heapOf (now (names .entry))) y) b) (now (degrees .entry)) (now (degrees .exit))) ⌝ }
+    ensures { λ _. ⌜ (Notes (now (degrees .entry)) → Lessened (parting n (held (now (table .entry))) (others (heapOf (now (names .entry))) y b) b) (now (degrees .entry)) (now (degrees .exit))) ⌝ }
 {
-    let mut own: u32 = 0;
-    for c in 0..n {
-        let tally = toward_one(table, names, y, b, c) as u32;
-        own = std::num::wrapping_add_u32(own, tally);
-        degrees[c] = std::num::wrapping_sub_u32(degrees[c], tally);
-    }
-    degrees[b] = std::num::wrapping_sub_u32(degrees[b], own);
+    let own = take_out(table, names, n, y, b, degrees) % 4294967296;
+    degrees[b] = std::num::wrapping_sub_u32(degrees[b], own as u32);
 }
 
 // The bones of x leave those of y, one by one.
@@ -148,21 +173,14 @@ pub fn leave(
     }
 }
 
-// Whether bone c is another bone of u's pile.
-fn are_mates(names: &[u8; 128], u: usize, c: usize) -> bool
-    requires { ⌜ (u < 128) × (c < 128) ⌝ }
-    ensures { λ r. ⌜ r ≡ mate (heapOf (now (names .entry))) u c ⌝ }
-{
-    if c == u { false } else { names[c] == names[u] }
-}
-
 // Whether the pile of bone u has another bone.
 fn another(names: &[u8; 128], n: usize, u: usize) -> bool
     requires { ⌜ (n ≤ 128) × (u < 128) ⌝ }
     ensures { λ r. ⌜ r ≡ some n (mate (heapOf (now (names .entry))) u) ⌝ }
 {
+    let name = names[u];
     for c in 0..n {
-        if are_mates(names, u, c) {
+        if is_other(names, name, u, c) {
             return true;
         }
     }
@@ -183,39 +201,6 @@ fn has_mates(names: &[u8; 128], n: usize, u: usize) -> bool
         }
     }
     false
-}
-
-// The tally of bone u with bone c, if c is another bone of its pile.
-fn with_mate(table: &[u32; 16384], names: &[u8; 128], u: usize, c: usize) -> u64
-    requires { ⌜ (u < 128) × (c < 128) ⌝ }
-    ensures { λ r. ⌜ (r ≡ cond (mate (heapOf (now (names .entry))) u c) (held (now (table .entry)) u c) 0) × (r < 2 ^ 32) ⌝ }
-{
-    if are_mates(names, u, c) {
-        tally_between(table, u, c)
-    } else {
-        0
-    }
-}
-
-// The tally of bone u with the other bones of its pile, each of which loses its part of it.
-fn take_out(
-    table: &[u32; 16384],
-    names: &[u8; 128],
-    n: usize,
-    u: usize,
-    degrees: &mut [u32; 128],
-) -> u64
-    requires { ⌜ (n ≤ 128) × (u < 128) ⌝ }
-    ensures { λ r. ⌜ r ≡ degree n (held (now (table .entry))) (heapOf (now (names .entry))) u ⌝ }
-    ensures { λ _. ⌜ (Notes (now (degrees .entry)) → Lessened (shareBy n (held (now (table .entry))) (mate (heapOf (now (names .entry))) u) u) (now (degrees .entry)) (now (degrees .exit))) ⌝ }
-{
-    let mut total: u64 = 0;
-    for c in 0..n {
-        let tally = with_mate(table, names, u, c);
-        total += tally;
-        degrees[c] = std::num::wrapping_sub_u32(degrees[c], tally as u32);
-    }
-    total
 }
 
 // The side that moves out where bone u is parted from its pile. The bone that names the pile stays.
@@ -250,7 +235,7 @@ pub fn lone(
 {
     let bones = at_most_128(n);
     if has_mates(names, bones, u) {
-        let weight = take_out(table, names, bones, u, degrees);
+        let weight = take_out(table, names, bones, names[u], u, degrees);
         if weight < k {
             return Split {
                 light: true,

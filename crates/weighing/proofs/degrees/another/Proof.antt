@@ -14,29 +14,31 @@ use Rattle.weighing.proofs.degrees.another.Statement.{statement}
 use Rattle.weighing.proofs.degrees.another.Tie as tie
 
 abbrev Inv-loop : tie.InvT-loop
-Inv-loop names n u c₀ c = (c ≤ n) × (some c (mate (heapOf names) u) ≡ false)
+Inv-loop names n u name c₀ c = (c ≤ n) × (some c (mate (heapOf names) u) ≡ false)
 
 abbrev μ-loop : tie.MeasureT-loop
-μ-loop names n u c₀ c = n - c
+μ-loop names n u name c₀ c = n - c
 
 loop-holds : tie.Need-loop-holds Inv-loop μ-loop
 unfolding some
 loop-holds c = (zero-le, refl)
 
 returns : tie.Need-returns Inv-loop μ-loop
+unfolding heapOf mate
 returns c =
-    let a = c .before .before .before .before .args in
+    let a = c .before .before .before .before .before .args in
     let l = c .before .before .before .loop in
-    sym (is-true _ (some-intro (a .n) (mate (heapOf (a .names .now)) (a .u)) (l .c) (c .before .before .loop-test .taken) (holds (sym (c .before .are-mates .ensures) ∙ c .if1 .taken))))
+    sym (is-true _ (some-intro (a .n) (mate (heapOf (a .names .now)) (a .u)) (l .c) (c .before .before .loop-test .taken) (holds (sym (c .before .is-other .ensures) ∙ c .if1 .taken))))
 
 loop-again : tie.Need-loop-again Inv-loop μ-loop
+unfolding heapOf mate
 loop-again c =
     let l = c .before .before .before .loop in
-    (omega arith, some-next (l .c) _ (sym (c .before .are-mates .ensures) ∙ c .if1 .left) (l .inv .1))
+    (omega arith, some-next (l .c) _ (sym (c .before .is-other .ensures) ∙ c .if1 .left) (l .inv .1))
 
 returns-2 : tie.Need-returns-2 Inv-loop μ-loop
 returns-2 c =
-    let a = c .before .before .args in
+    let a = c .before .before .before .args in
     let l = c .before .loop in
     let done : a .n ≡ l .c = omega arith in
     sym (ap (λ (m : ℕ). some m (mate (heapOf (a .names .now)) (a .u))) done ∙ l .inv .1)
@@ -47,6 +49,7 @@ another-spec =
     (tie.spec
     Inv-loop
     μ-loop
+    (λ c. omega arith)
     loop-holds
     (λ c κs. omega arith)
     returns

@@ -5,9 +5,6 @@ use mathlib.Core.Path.{subst, _≡_, sym, _∙_, ap}
 use mathlib.Core.Logic.{⊎-elim}
 use mathlib.Core.List.{List}
 use native.Mathlib.Omega.{arith}
-use lib.Dec.{not-T}
-use Rattle.meaning.proofs.Heaps.{pile-intro, pile-name}
-use Rattle.meaning.specs.Heap.{pile}
 use Rattle.pairs.proofs.TableHeld.{held-symmetric}
 use Rattle.pairs.specs.Table.{held}
 use Rattle.pairs.specs.Side.{heapOf}
@@ -17,7 +14,7 @@ use Rattle.weighing.proofs.degrees.leave_from.Statement.{statement}
 use Rattle.weighing.proofs.degrees.leave_from.Tie as tie
 
 abbrev Inv-loop : tie.InvT-loop
-Inv-loop table names n x y degrees₀ bones b₀ degrees b = (b ≤ bones) × (Notes degrees₀ → Lessened (lostBy b bones (held table) (pile bones (heapOf names) x) (pile bones (heapOf names) y)) degrees₀ degrees)
+Inv-loop table names n x y degrees₀ bones b₀ degrees b = (b ≤ bones) × (Notes degrees₀ → Lessened (lostBy b bones (held table) (heapOf names) x y) degrees₀ degrees)
 
 abbrev μ-loop : tie.MeasureT-loop
 μ-loop table names n x y degrees₀ bones b₀ degrees b = bones - b
@@ -27,7 +24,7 @@ loop-holds c =
     let a = c .before .args in
     let n = c .at-most-128 .result in
     let h = heapOf (a .names .now) in
-    (zero-le, λ notes. less-same (lost-none n (held (a .table .now)) (pile n h (a .x)) (pile n h (a .y))) (less-none notes))
+    (zero-le, λ notes. less-same (lost-none n (held (a .table .now)) h (a .x) (a .y)) (less-none notes))
 
 loop-again : tie.Need-loop-again Inv-loop μ-loop
 unfolding heapOf
@@ -37,16 +34,14 @@ loop-again c =
     let n = c .before .before .before .before .at-most-128 .result in
     let w = held (a .table .now) in
     let h = heapOf (a .names .now) in
-    let X = pile n h (a .x) in
-    let Y = pile n h (a .y) in
     let symmetric = held-symmetric (a .table .now) in (
       omega arith,
       λ notes. let so = l .inv .1 notes in
           ⊎-elim
-          (λ v. subst (λ (d : List ℕ). Lessened (lostBy (l .b + 1) n w X Y) (a .degrees .now) d) (sym (v .3))
-          (less-same (lost-next n w X Y symmetric (l .b) (pile-intro n h (a .x) (l .b) (omega arith) (v .0 .taken))) (less-then so (v .2 .ensures (so .notes)))))
-          (λ v. subst (λ (d : List ℕ). Lessened (lostBy (l .b + 1) n w X Y) (a .degrees .now) d) (sym (v .1))
-          (less-same (lost-skip n w X Y symmetric (l .b) (not-T (X (l .b)) (λ t. v .0 .left (pile-name n h (a .x) (l .b) t)))) so))
+          (λ v. subst (λ (d : List ℕ). Lessened (lostBy (l .b + 1) n w h (a .x) (a .y)) (a .degrees .now) d) (sym (v .3))
+          (less-same (lost-next n w h (a .x) (a .y) symmetric (l .b) (v .0 .taken)) (less-then so (v .2 .ensures (so .notes)))))
+          (λ v. subst (λ (d : List ℕ). Lessened (lostBy (l .b + 1) n w h (a .x) (a .y)) (a .degrees .now) d) (sym (v .1))
+          (less-same (lost-skip n w h (a .x) (a .y) (l .b) (v .0 .left)) so))
           (c .if1 .came),
     )
 
@@ -59,7 +54,7 @@ returns c =
     let h = heapOf (a .names .now) in
     let done : l .b ≡ n .result = omega arith in
     λ notes. less-same
-    (λ b. ap (λ (m : ℕ). lostBy m (n .result) w (pile (n .result) h (a .x)) (pile (n .result) h (a .y)) b) done
+    (λ b. ap (λ (m : ℕ). lostBy m (n .result) w h (a .x) (a .y) b) done
     ∙ lost-all (n .result) w h (a .x) (a .y) b
     ∙ ap (λ (m : ℕ). lost m w h (a .x) (a .y) b) (n .ensures .0))
     (l .inv .1 notes)

@@ -12,7 +12,7 @@ use Rattle.pairs.specs.Table.{held}
 use Rattle.pairs.specs.Side.{heapOf}
 use Rattle.pairs.proofs.TableHeld.{held-symmetric}
 use Rattle.weighing.specs.declared.search.Split.{Split}
-use Rattle.weighing.specs.Degrees.{degree, loose, Loosed, without, Notes, Lessened}
+use Rattle.weighing.specs.Degrees.{mate, degree, loose, Loosed, without, Notes, Lessened}
 use Rattle.weighing.proofs.Lone.{joined-low, loosed}
 use Rattle.weighing.proofs.Noting.{less-same, less-none, without-mates, without-none}
 use Rattle.weighing.proofs.degrees.lone.Statement.{statement}
@@ -28,40 +28,41 @@ u-low : (c : tie.Then1) → c .before .before .before .args .u < 128
 u-low c = omega (arith, c .before .before .at-most-128 .ensures .1, u-below c)
 
 -- the degrees that were taken out
-taken : (c : tie.After-take-out) → let a = c .before .before .before .before .before .args in Notes (a .degrees .now) → Lessened (without (c .before .before .before .before .at-most-128 .result) (held (a .table .now)) (heapOf (a .names .now)) (a .u)) (a .degrees .now) (c .take-out .last .1 .1 .1 .1 .0)
+taken : (c : tie.After-take-out) → let a = c .before .before .before .before .before .before .args in Notes (a .degrees .now) → Lessened (without (c .before .before .before .before .before .at-most-128 .result) (held (a .table .now)) (heapOf (a .names .now)) (a .u)) (a .degrees .now) (c .take-out .last .1 .1 .1 .1 .1 .0)
+unfolding heapOf mate
 taken c notes =
-    let a = c .before .before .before .before .before .args in
-    less-same (λ b. without-mates (c .before .before .before .before .at-most-128 .result) (held (a .table .now)) (heapOf (a .names .now)) (a .u) b (sym (c .before .before .before .has-mates .ensures) ∙ c .before .before .if1 .taken)) (c .take-out .ensures .1 notes)
+    let a = c .before .before .before .before .before .before .args in
+    less-same (λ b. without-mates (c .before .before .before .before .before .at-most-128 .result) (held (a .table .now)) (heapOf (a .names .now)) (a .u) b (sym (c .before .before .before .before .has-mates .ensures) ∙ c .before .before .before .if1 .taken)) (c .take-out .ensures .1 notes)
 
 returns : tie.Need-returns
-unfolding loose heapOf
+unfolding loose heapOf degree mate
 returns c =
     let t = c .before .before .before in
-    let a = t .before .before .before .before .before .args in
-    let n = t .before .before .before .before .at-most-128 in
+    let a = t .before .before .before .before .before .before .args in
+    let n = t .before .before .before .before .before .at-most-128 in
     let w = held (a .table .now) in
     let h = heapOf (a .names .now) in
     let d = t .take-out in
-    let sure = sym (t .before .before .if1 .taken) ∙ t .before .before .before .has-mates .ensures in
+    let sure = sym (t .before .before .before .if1 .taken) ∙ t .before .before .before .before .has-mates .ensures in
     let light = c .before .before .if2 .taken in
     let r : Split = record { light = true; pile = h (a .u); weight = d .result; side = c .lone-side .result } in
-    subst (λ (m : ℕ). (true ≡ loose m w (a .k) h (a .u)) × (Loosed m w (a .k) h (a .u) r true × (Notes (a .degrees .now) → Lessened (without m w h (a .u)) (a .degrees .now) (d .last .1 .1 .1 .1 .0)))) (n .ensures .0) (
+    subst (λ (m : ℕ). (true ≡ loose m w (a .k) h (a .u)) × (Loosed m w (a .k) h (a .u) r true × (Notes (a .degrees .now) → Lessened (without m w h (a .u)) (a .degrees .now) (d .last .1 .1 .1 .1 .1 .0)))) (n .ensures .0) (
       ap₂ _&&_ sure (sym (lt-ltb (d .result) (a .k) light) ∙ ap (λ (x : ℕ). ltb x (a .k)) (d .ensures .0)),
       (loosed (n .result) w (a .k) h (a .u) r (held-symmetric (a .table .now)) (holds (sym sure)) refl (d .ensures .0) light (c .lone-side .ensures), taken t),
     )
 
 returns-2 : tie.Need-returns-2
-unfolding loose Loosed
+unfolding loose Loosed heapOf degree mate
 returns-2 c =
     let t = c .before in
-    let a = t .before .before .before .before .before .args in
-    let n = t .before .before .before .before .at-most-128 in
+    let a = t .before .before .before .before .before .before .args in
+    let n = t .before .before .before .before .before .at-most-128 in
     let w = held (a .table .now) in
     let h = heapOf (a .names .now) in
     let d = t .take-out in (
-      ap₂ _&&_ (sym (t .before .before .if1 .taken) ∙ t .before .before .before .has-mates .ensures) (sym (le-ltb (d .result) (a .k) (c .if2 .left)) ∙ ap (λ (x : ℕ). ltb x (a .k)) (d .ensures .0))
+      ap₂ _&&_ (sym (t .before .before .before .if1 .taken) ∙ t .before .before .before .before .has-mates .ensures) (sym (le-ltb (d .result) (a .k) (c .if2 .left)) ∙ ap (λ (x : ℕ). ltb x (a .k)) (d .ensures .0))
           ∙ ap (λ (m : ℕ). loose m w (a .k) h (a .u)) (n .ensures .0),
-      ((refl, refl, refl), subst (λ (m : ℕ). Notes (a .degrees .now) → Lessened (without m w h (a .u)) (a .degrees .now) (d .last .1 .1 .1 .1 .0)) (n .ensures .0) (taken t)),
+      ((refl, refl, refl), subst (λ (m : ℕ). Notes (a .degrees .now) → Lessened (without m w h (a .u)) (a .degrees .now) (d .last .1 .1 .1 .1 .1 .0)) (n .ensures .0) (taken t)),
     )
 
 returns-3 : tie.Need-returns-3
@@ -83,9 +84,10 @@ lone-spec =
     (tie.spec
     (λ c κs. search needs)
     (λ c κs. search needs)
-    (λ c κs. (omega arith, u-low (c .before)))
-    (λ c. u-low (c .before .before .before))
-    (λ c κs. (omega arith, u-below (c .before .before .before .before)))
+    u-low
+    (λ c κs. (omega arith, u-low (c .before .before)))
+    (λ c. u-low (c .before .before .before .before))
+    (λ c κs. (omega arith, u-below (c .before .before .before .before .before)))
     returns
     returns-2
     returns-3)

@@ -5,37 +5,35 @@ use mathlib.Core.Path.{_≡_, sym, _∙_, ap, subst}
 use native.Mathlib.Omega.{arith}
 use Rattle.pairs.specs.Table.{held}
 use Rattle.pairs.specs.Side.{heapOf}
-use Rattle.weighing.specs.Degrees.{mate, degree, shareBy, Notes, Lessened}
+use Rattle.weighing.specs.Degrees.{toward, others, share, Notes, Lessened}
 use Rattle.weighing.proofs.Noting.{toward-none, toward-next, less-same, less-none, less-at, share-none, share-next}
 use Rattle.weighing.proofs.degrees.take_out.Statement.{statement}
 use Rattle.weighing.proofs.degrees.take_out.Tie as tie
 
 abbrev Inv-loop : tie.InvT-loop
-Inv-loop table names n u degrees₀ total₀ c₀ degrees total c =
-    (c ≤ n) × (total ≡ degree c (held table) (heapOf names) u) × (total ≤ c * 2 ^ 32) × (Notes degrees₀ → Lessened (shareBy c (held table) (mate (heapOf names) u) u) degrees₀ degrees)
+Inv-loop table names n name b degrees₀ total₀ c₀ degrees total c =
+    (c ≤ n) × (total ≡ toward c (held table) (others (heapOf names) name b) b) × (total ≤ c * 2 ^ 32) × (Notes degrees₀ → Lessened (share c (held table) (others (heapOf names) name b) b) degrees₀ degrees)
 
 abbrev μ-loop : tie.MeasureT-loop
-μ-loop table names n u degrees₀ total₀ c₀ degrees total c = n - c
+μ-loop table names n name b degrees₀ total₀ c₀ degrees total c = n - c
 
 loop-holds : tie.Need-loop-holds Inv-loop μ-loop
-unfolding degree
 loop-holds c =
     let w = held (c .args .table .now) in
-    let S = mate (heapOf (c .args .names .now)) (c .args .u) in
-    (zero-le, sym (toward-none w S (c .args .u)), zero-le, λ notes. less-same (share-none w S (c .args .u)) (less-none notes))
+    let S = others (heapOf (c .args .names .now)) (c .args .name) (c .args .b) in
+    (zero-le, sym (toward-none w S (c .args .b)), zero-le, λ notes. less-same (share-none w S (c .args .b)) (less-none notes))
 
 loop-again : tie.Need-loop-again Inv-loop μ-loop
-unfolding degree
 loop-again c =
-    let x = c .before .before .with-mate in
+    let x = c .before .before .tally-with in
     let l = c .before .before .before .before .loop in
     let a = c .before .before .before .before .before .args in
     let w = held (a .table .now) in
-    let S = mate (heapOf (a .names .now)) (a .u) in (
+    let S = others (heapOf (a .names .now)) (a .name) (a .b) in (
       omega arith,
-      omega (arith, l .inv .1, x .ensures .0, toward-next (l .c) w S (a .u)),
+      omega (arith, l .inv .1, x .ensures .0, toward-next (l .c) w S (a .b)),
       omega (arith, x .ensures .1),
-      λ notes. less-same (share-next w S (a .u) (l .c))
+      λ notes. less-same (share-next w S (a .b) (l .c))
           (less-at (l .c) _ (c .wrapping-sub-u32 .result) (omega arith) (omega (arith, c .wrapping-sub-u32 .ok)) (omega (arith, x .ensures .0, x .ensures .1, c .wrapping-sub-u32 .ensures)) (l .inv .3 notes)),
     )
 
@@ -44,10 +42,10 @@ returns c =
     let a = c .before .before .args in
     let l = c .before .loop in
     let w = held (a .table .now) in
-    let h = heapOf (a .names .now) in
+    let S = others (heapOf (a .names .now)) (a .name) (a .b) in
     let done : l .c ≡ a .n = omega arith in (
-      l .inv .1 ∙ ap (λ (m : ℕ). degree m w h (a .u)) done,
-      λ notes. subst (λ (m : ℕ). Lessened (shareBy m w (mate h (a .u)) (a .u)) (a .degrees .now) (l .degrees)) done (l .inv .3 notes),
+      l .inv .1 ∙ ap (λ (m : ℕ). toward m w S (a .b)) done,
+      λ notes. subst (λ (m : ℕ). Lessened (share m w S (a .b)) (a .degrees .now) (l .degrees)) done (l .inv .3 notes),
     )
 
 pub take-out-spec : {M : Type 1} → statement M
@@ -58,10 +56,10 @@ take-out-spec =
     μ-loop
     loop-holds
     (λ c κs. omega arith)
-    (λ c. omega (arith, c .with-mate .ensures .1))
+    (λ c. omega (arith, c .tally-with .ensures .1))
     (λ c. omega arith)
     (λ c. omega arith)
-    (λ c. omega (arith, c .before .with-mate .ensures .1))
+    (λ c. omega (arith, c .before .tally-with .ensures .1))
     (λ c κs. omega arith)
     (λ c. omega arith)
     (λ c. omega arith)
