@@ -11,6 +11,8 @@ use lib.Seq.{take-take}
 use Rattle.meaning.specs.declared.Link.{Link}
 use Rattle.meaning.specs.declared.Judged.{Judged}
 use Rattle.meaning.specs.declared.Judged.the-variants.{Accepted, Refused}
+use Rattle.meaning.specs.Bytes.{Bytes}
+use Rattle.meaning.proofs.Bytes.{bytes-take}
 use Rattle.meaning.specs.Judge.{refuse, first}
 use Rattle.meaning.specs.Tally.{Tally, pairTally}
 use Rattle.meaning.specs.Firm.{label, groups}
@@ -82,7 +84,7 @@ module _ (n k : ℕ) (links : List Link) (given : List ℕ) where
     given-below =
         omega (arith, cuts-below n k links (cutsOf given) some-bones (given-sound .run), length-cuts (length given / entrySize) given, given-sound .whole)
 
-    module _ (space space′ : List ℕ) (c : Continued n w k given space space′) where
+    module _ (space space′ : List ℕ) (are-bytes : Bytes space′) (c : Continued n w k given space space′) where
       turn : entrySize * (groups n w k - 1) ≡ (groups n w k - 1) * entrySize
       turn = omega arith
 
@@ -93,6 +95,7 @@ module _ (n k : ℕ) (links : List Link) (given : List ℕ) where
       finishes : Finishes n k links given (left-in space′)
       finishes =
           record {
+            are-bytes = λ i. omega (arith, bytes-take ((groups n w k - 1) * entrySize) space′ are-bytes i);
             whole = sound .whole;
             kept = take-take (length given) ((groups n w k - 1) * entrySize) space′ given-below ∙ c .given;
             lawful = sound .run;
@@ -114,17 +117,17 @@ module _ (n k : ℕ) (links : List Link) (given : List ℕ) where
   ready-by (Refused number place) e g q =
       subst (λ (x : Answer). Ready x (entrySize * 127)) (sym q) (subst Fits e (grouping-fits n k links given 128 (entrySize * 127)))
 
-  answers-by : (j : Judged) → first rows ≡ j → (space space′ out out′ : List ℕ) (g : Answer) (r : Written) → g ≡ answered j (groups n w k) true → Recorded j n w k given space space′
+  answers-by : (j : Judged) → first rows ≡ j → (space space′ out out′ : List ℕ) (g : Answer) (r : Written) → Bytes space′ → g ≡ answered j (groups n w k) true → Recorded j n w k given space space′
       → AfterGrouping g n k links space′ out out′ r → Answers j n k links given out out′ r
   unfolding answered Recorded AfterGrouping Printed
-  answers-by Accepted e space space′ out out′ g r q c a =
+  answers-by Accepted e space space′ out out′ g r bs q c a =
       record {
         text = resultText n k (left-in space′);
-        printed = record { bytes = left-in space′; finishes = finishes e space space′ c; result = refl };
-        writes = subst (λ (i : Judged). Writes i (resultText n k (left-in space′)) out out′ r) (only-room e space space′ c (length out))
+        printed = record { bytes = left-in space′; finishes = finishes e space space′ bs c; result = refl };
+        writes = subst (λ (i : Judged). Writes i (resultText n k (left-in space′)) out out′ r) (only-room e space space′ bs c (length out))
             (subst (λ (x : Answer). AfterGrouping x n k links space′ out out′ r) q a);
       }
-  answers-by (Refused number place) e space space′ out out′ g r q c a =
+  answers-by (Refused number place) e space space′ out out′ g r bs q c a =
       record {
         text = refusalLine number place;
         printed = refl;
@@ -141,7 +144,7 @@ module _ (n k : ℕ) (links : List Link) (given : List ℕ) where
     pub grouping-ready : Ready g (length space)
     grouping-ready = subst (Ready g) (sym wide) (ready-by (first rows) refl g says)
 
-    pub grouping-answers : (out out′ : List ℕ) (r : Written) → AfterGrouping g n k links space′ out out′ r → Answers (first (groupedRows n k links given)) n k links given out out′ r
+    pub grouping-answers : (out out′ : List ℕ) (r : Written) → Bytes space′ → AfterGrouping g n k links space′ out out′ r → Answers (first (groupedRows n k links given)) n k links given out out′ r
     unfolding groupedRows
-    grouping-answers out out′ r a =
-        answers-by (first rows) refl space space′ out out′ g r says (subst (λ (js : List Judged). Recorded (first js) n w k given space space′) same (grouped .record-left)) a
+    grouping-answers out out′ r bs a =
+        answers-by (first rows) refl space space′ out out′ g r bs says (subst (λ (js : List Judged). Recorded (first js) n w k given space space′) same (grouped .record-left)) a

@@ -42,7 +42,7 @@ unfolding Fits refuse first
 row-fits true number place js small rest = small
 row-fits false number place js small rest = rest refl
 
-both-fit : (js ks : List Judged) → Fits (first js) → (first js ≡ Accepted → Fits (first ks)) → Fits (first (js ++ ks))
+pub both-fit : (js ks : List Judged) → Fits (first js) → (first js ≡ Accepted → Fits (first ks)) → Fits (first (js ++ ks))
 unfolding Fits first
 both-fit [] ks f g = g refl
 both-fit (Accepted ∷ js) ks f g = both-fit js ks f g

@@ -6,3 +6,4 @@ pub mod AnswerRow
 pub mod Calls
 pub mod ReadingRow
 pub mod Theorems
+pub mod Letters

@@ -22,6 +22,7 @@ use Rattle.links.specs.Links.{tableRows}
 use Rattle.links.proofs.LinksRows.{table-counted, accepted-left, accepted-right}
 use Rattle.cuts.specs.Record.{entrySize, cutsOf}
 use Rattle.cuts.proofs.Cuts.{length-cuts}
+use Rattle.cuts.proofs.Same.{same-bytes}
 use Rattle.cutting.specs.Rows.{groupingRows}
 use Rattle.reading.specs.Lines.{linesOf}
 use Rattle.reading.specs.Reader.{linksIn, entriesIn, bonesIn, thresholdIn, readerRows, put}
@@ -32,7 +33,7 @@ use Rattle.lines.specs.Writing.{wrote}
 use Rattle.texts.specs.Writers.{resultText}
 use Rattle.texts.proofs.Texts.{result-length}
 use Rattle.lines.proofs.WritesLines.{length-refusal}
-use Rattle.answering.specs.Prints.{groupedRows, programRows, Finishes, Result, Printed, Answering}
+use Rattle.answering.specs.Prints.{groupedRows, programRows, Finishes, Result, Printed, shown, Answering}
 
 -- ---- a result text
 
@@ -71,13 +72,13 @@ module _ (n k : ℕ) (links : List Link) (given : List ℕ) (some-bones : 0 < n)
 
 -- ---- the answer to an input
 
-accepted-bones : (input : List ℕ) → first (programRows input) ≡ Accepted → (0 < bonesIn (linesOf input)) × (bonesIn (linesOf input) ≤ 128)
+pub accepted-counts : (input : List ℕ) → first (programRows input) ≡ Accepted → (0 < bonesIn (linesOf input)) × (bonesIn (linesOf input) ≤ 128) × (thresholdIn (linesOf input) ≤ 65535)
 unfolding programRows groupedRows groupingRows
-accepted-bones input e =
+accepted-counts input e =
     let ls = linesOf input in
     let rows = tableRows (bonesIn ls) (thresholdIn ls) true (linksIn ls) in
     let counted = table-counted (bonesIn ls) (thresholdIn ls) true (linksIn ls) (accepted-left rows _ (accepted-right (readerRows input 4096 (entrySize * 127)) _ e)) in
-    (counted .some-bones, counted .few-bones)
+    (counted .some-bones, counted .few-bones, counted .low-threshold)
 
 -- two texts that may be printed are of one length, and one text where the input is refused
 module _ (n k : ℕ) (links : List Link) (given : List ℕ) where
@@ -92,26 +93,52 @@ module _ (n k : ℕ) (links : List Link) (given : List ℕ) where
       omega (arith, result-size n k links given (fits refl .0) t p, count-most n (λ b. eqb (label n (pairTally links) k b) b), fits refl .1)
   few-bytes (Refused number place) fits t p = omega (arith, ap length p, length-refusal number place)
 
+  -- and one text, but for which cuts are shown
+  one-shown : (j : Judged) (t u : List ℕ) (p : Printed j n k links given t) (q : Printed j n k links given u) → shown j n k links given t p ≡ shown j n k links given u q → t ≡ u
+  unfolding Printed shown
+  one-shown Accepted t u p q e =
+      p .result
+      ∙ ap (resultText n k) (same-bytes (p .bytes) (q .bytes) (p .finishes .whole) (q .finishes .whole) (λ i. omega (arith, p .finishes .are-bytes i)) (λ i. omega (arith, q .finishes .are-bytes i)) e)
+      ∙ sym (q .result)
+  one-shown (Refused number place) t u p q e = p ∙ sym q
+
   one-refusal : (j : Judged) (number place : ℕ) → j ≡ Refused number place → (t : List ℕ) → Printed j n k links given t → t ≡ refusalLine number place
   unfolding Printed
   one-refusal j number place e t p = subst (λ (i : Judged). Printed i n k links given t) e p
 
 module _ (input out out₁ out₂ : List ℕ) (r s : Written) (a : Answering input out out₁ r) (b : Answering input out out₂ s) where
+  abbrev n : ℕ
+  n = bonesIn (linesOf input)
+
+  abbrev k : ℕ
+  k = thresholdIn (linesOf input)
+
+  abbrev links : List Link
+  links = linksIn (linesOf input)
+
+  abbrev given : List ℕ
+  given = entriesIn (linesOf input)
+
   -- one answer
   pub one-answer : r ≡ s
   unfolding wrote
   one-answer =
-      let same = one-size (bonesIn (linesOf input)) (thresholdIn (linesOf input)) (linksIn (linesOf input)) (entriesIn (linesOf input)) (first (programRows input)) (λ e. accepted-bones input e .0) (a .text) (b .text) (a .printed) (b .printed) in
+      let same = one-size n k links given (first (programRows input)) (λ e. accepted-counts input e .0) (a .text) (b .text) (a .printed) (b .printed) in
       a .writes .answer ∙ ap (λ (m : ℕ). wrote (refuse (ltb (length out) m) 20 0) m) same ∙ sym (b .writes .answer)
 
-  -- and one text, where the input is refused
+  same-text : a .text ≡ b .text → out₁ ≡ out₂
+  same-text e =
+      a .writes .text-left ∙ ap (λ (t : List ℕ). put (refuse (ltb (length out) (length t)) 20 0) t out) e ∙ sym (b .writes .text-left)
+
+  -- and one text, but for which cuts are shown
+  pub one-text : shown (first (programRows input)) n k links given (a .text) (a .printed) ≡ shown (first (programRows input)) n k links given (b .text) (b .printed) → out₁ ≡ out₂
+  one-text e = same-text (one-shown n k links given (first (programRows input)) (a .text) (b .text) (a .printed) (b .printed) e)
+
+  -- so one, where the input is refused
   pub one-refused : (number place : ℕ) → first (programRows input) ≡ Refused number place → out₁ ≡ out₂
   one-refused number place e =
-      let line : (t : List ℕ) → Printed (first (programRows input)) (bonesIn (linesOf input)) (thresholdIn (linesOf input)) (linksIn (linesOf input)) (entriesIn (linesOf input)) t → t ≡ refusalLine number place =
-      one-refusal (bonesIn (linesOf input)) (thresholdIn (linesOf input)) (linksIn (linesOf input)) (entriesIn (linesOf input)) (first (programRows input)) number place e in
-      a .writes .text-left
-      ∙ ap (λ (t : List ℕ). put (refuse (ltb (length out) (length t)) 20 0) t out) (line (a .text) (a .printed) ∙ sym (line (b .text) (b .printed)))
-      ∙ sym (b .writes .text-left)
+      let line = one-refusal n k links given (first (programRows input)) number place e in
+      same-text (line (a .text) (a .printed) ∙ sym (line (b .text) (b .printed)))
 
 counted : Written → ℕ
 counted (Bytes count) = count
@@ -121,7 +148,7 @@ counted (Refused·written number place) = 0
 module _ (input out out′ : List ℕ) (r : Written) (a : Answering input out out′ r) (wide : 7141 ≤ length out) where
   text-fits : length (a .text) ≤ length out
   text-fits =
-      omega (arith, few-bytes (bonesIn (linesOf input)) (thresholdIn (linesOf input)) (linksIn (linesOf input)) (entriesIn (linesOf input)) (first (programRows input)) (accepted-bones input) (a .text) (a .printed))
+      omega (arith, few-bytes (bonesIn (linesOf input)) (thresholdIn (linesOf input)) (linksIn (linesOf input)) (entriesIn (linesOf input)) (first (programRows input)) (λ e. let c = accepted-counts input e in (c .0, c .1)) (a .text) (a .printed))
 
   pub room-enough : r ≡ Bytes (length (a .text))
   unfolding refuse wrote

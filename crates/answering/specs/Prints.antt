@@ -2,15 +2,16 @@
 use Prim.Native.Nat.{ℕ, _*_, _%_}
 use mathlib.Core.Path.{_≡_}
 use mathlib.Core.Bool.{true}
-use mathlib.Core.List.{List, _++_}
+use mathlib.Core.List.{List, [], _++_}
 use lib.Dec.{T, ltb}
 use lib.ListN.{length, take}
 use Rattle.meaning.specs.declared.Link.{Link}
 use Rattle.meaning.specs.declared.Judged.{Judged}
 use Rattle.meaning.specs.declared.Judged.the-variants.{Accepted, Refused}
+use Rattle.meaning.specs.Bytes.{Bytes}
 use Rattle.meaning.specs.Judge.{refuse, first}
 use Rattle.meaning.specs.Tally.{pairTally}
-use Rattle.meaning.specs.Heap.{start, LawfulRun, left, finished}
+use Rattle.meaning.specs.Heap.{Cut, start, LawfulRun, left, finished}
 use Rattle.cuts.specs.Record.{entrySize, cutsOf}
 use Rattle.cutting.specs.Rows.{groupingRows}
 use Rattle.lines.specs.declared.Written.{Written}
@@ -29,8 +30,9 @@ programRows input =
     readerRows input 4096 (entrySize * 127)
     ++ groupedRows (bonesIn (linesOf input)) (thresholdIn (linesOf input)) (linksIn (linesOf input)) (entriesIn (linesOf input))
 
--- a record that may be printed: whole entries, the given ones first, a lawful run, and finished
+-- a record that may be printed: bytes, whole entries, the given ones first, a lawful run, and finished
 pub record Finishes (n k : ℕ) (links : List Link) (given bytes : List ℕ) : Type 0 where
+  pub are-bytes : Bytes bytes
   pub whole : length bytes % entrySize ≡ 0
   pub kept : take (length given) bytes ≡ given
   pub lawful : LawfulRun n (pairTally links) k start (cutsOf bytes)
@@ -46,6 +48,12 @@ pub record Result (n k : ℕ) (links : List Link) (given text : List ℕ) : Type
 unfoldable pub Printed : Judged → ℕ → ℕ → List Link → List ℕ → List ℕ → Type 0
 Printed Accepted n k links given text = Result n k links given text
 Printed (Refused number place) n k links given text = text ≡ refusalLine number place
+
+-- the cuts that are printed; none with a refusal
+unfoldable pub shown : (j : Judged) (n k : ℕ) (links : List Link) (given text : List ℕ) → Printed j n k links given text → List Cut
+unfolding Printed
+shown Accepted n k links given text p = cutsOf (p .bytes)
+shown (Refused number place) n k links given text p = []
 
 -- the text at the front of the space lent for it, the rest as it was, and its length; or refusal 20, and nothing written
 pub record Answers (rows : Judged) (n k : ℕ) (links : List Link) (given out out′ : List ℕ) (r : Written) : Type 0 where

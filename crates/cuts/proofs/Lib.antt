@@ -2,3 +2,4 @@
 pub mod Entries
 pub mod Cuts
 pub mod Narrow
+pub mod Same

@@ -10,13 +10,11 @@ use borrow.Author.Tests.{lt-ltb, le-ltb, le-leb, lt-leb}
 use lib.Dec.{T, eqb, leb, ltb, leb→le, ltb→lt, nltb→le, lt→ltb, eqb→eq}
 use lib.ListN.{length, getD, take, drop, length-append, drop-of-length-le}
 use lib.Seq.{split-at}
+use Rattle.meaning.specs.Bytes.{Bytes}
+use Rattle.meaning.proofs.Bytes.{bytes-cons, bytes-append}
 use Rattle.meaning.proofs.Tests.{eq→eqb, both, left-of, right-of}
 use Rattle.frames.specs.Frame.{payloads, isKind, byteSum, sumByte, digit, valueOf, hex, isHex, bytesOf, line, wellFormed}
 use Rattle.frames.specs.Characters.{pairOf}
-
--- a run of bytes: each is below 256 (past the end, nought stands)
-abbrev pub Bytes : List ℕ → Type 0
-Bytes bs = (i : ℕ) → getD bs i 0 < 256
 
 -- by which way a choice went
 pub chosen : {A : Type 0} (b : Bool) (x y : A) → (T b × (cond b x y ≡ x)) ⊎ (T (not b) × (cond b x y ≡ y))
@@ -217,15 +215,6 @@ pub sum-only : (bs : List ℕ) (y : ℕ) → y < 256 → byteSum (bs ++ y ∷ []
 unfolding sumByte
 sum-only bs y h e = omega (arith, sum-snoc bs y, sum-bound bs)
 
-pub bytes-append : (xs ys : List ℕ) → Bytes xs → Bytes ys → Bytes (xs ++ ys)
-bytes-append [] ys f g i = g i
-bytes-append (x ∷ xs) ys f g zero = f 0
-bytes-append (x ∷ xs) ys f g (suc i) = bytes-append xs ys (λ j. f (suc j)) g i
-
-pub bytes-one : (y : ℕ) → y < 256 → Bytes (y ∷ [])
-bytes-one y h zero = h
-bytes-one y h (suc i) = omega arith
-
 -- a frame's bytes: kind, payload, sum byte. They are bytes, their sum is nought, and their line is well formed and means them
 abbrev pub whole : ℕ → List ℕ → List ℕ
 whole kind payload = kind ∷ payload ++ sumByte (kind ∷ payload) ∷ []
@@ -236,7 +225,7 @@ sumByte-bound bs = omega arith
 
 pub whole-bytes : (kind : ℕ) (payload : List ℕ) → Bytes (kind ∷ payload) → Bytes (whole kind payload)
 whole-bytes kind payload f =
-    bytes-append (kind ∷ payload) (sumByte (kind ∷ payload) ∷ []) f (bytes-one (sumByte (kind ∷ payload)) (sumByte-bound (kind ∷ payload)))
+    bytes-append (kind ∷ payload) (sumByte (kind ∷ payload) ∷ []) f (bytes-cons (sumByte (kind ∷ payload)) [] (sumByte-bound (kind ∷ payload)) (λ i. omega arith))
 
 pub whole-sum : (kind : ℕ) (payload : List ℕ) → byteSum (whole kind payload) ≡ 0
 whole-sum kind payload = sum-nought (kind ∷ payload)

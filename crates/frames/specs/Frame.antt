@@ -1,6 +1,6 @@
 -- Frames: kind, payload and sum byte, as a line of lower-case hexadecimal pairs ended by one line feed.
 use Prim.Native.Nat.{ℕ, _+_, _*_, _-_, _/_, _%_}
-use mathlib.Core.Bool.{Bool, true, false, cond, _&&_}
+use mathlib.Core.Bool.{Bool, true, false, cond, _&&_, _||_}
 use mathlib.Core.List.{List, [], _∷_, _++_}
 use lib.Dec.{eqb, leb, ltb}
 use lib.ListN.{length, getD}
@@ -52,3 +52,11 @@ line kind payload = hex (kind ∷ payload ++ sumByte (kind ∷ payload) ∷ []) 
 unfoldable pub wellFormed : List ℕ → Bool
 wellFormed cs =
     isHex cs && (isKind (getD (bytesOf cs) 0 0) && eqb (length (bytesOf cs)) (getD payloads (getD (bytesOf cs) 0 0) 0 + 2))
+
+-- whether a text has no characters but the digits 0 to 9 and a to f and the line feed
+unfoldable pub letter : ℕ → Bool
+letter c = leb 48 c && leb c 57 || (leb 97 c && leb c 102 || eqb c 10)
+
+unfoldable pub lettered : List ℕ → Bool
+lettered [] = true
+lettered (c ∷ cs) = letter c && lettered cs

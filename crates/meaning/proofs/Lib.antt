@@ -11,3 +11,4 @@ pub mod Runs
 pub mod Ends
 pub mod Cases
 pub mod Theorems
+pub mod Bytes

@@ -4,4 +4,5 @@ pub mod Tally
 pub mod Firm
 pub mod Heap
 pub mod Judge
+pub mod Bytes
 pub mod Cases

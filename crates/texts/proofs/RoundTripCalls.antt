@@ -28,7 +28,7 @@ use Rattle.reading.specs.Reader.{linksIn, entriesIn, bonesIn, thresholdIn, read
 use Rattle.lines.specs.Writing.{wrote, Writes}
 use Rattle.inputs.specs.Inputs.{inputText, inputRows}
 use Rattle.texts.specs.Writers.{unnoted}
-use Rattle.frames.proofs.Frames.{Bytes}
+use Rattle.meaning.specs.Bytes.{Bytes}
 use Rattle.inputs.proofs.WritesRows.{row-accepted}
 use Rattle.inputs.proofs.WritesLinks.{length-input}
 use Rattle.texts.proofs.RoundTripLines.{passes}

@@ -15,7 +15,8 @@ use Rattle.frames.specs.Frame.{payloads, isKind, byteSum, hex, line, wellFormed
 use Rattle.stages.specs.declared.stage.Stage.{Stage}
 use Rattle.stages.specs.Stages.{follows, after}
 use Rattle.reading.specs.Lines.{Line, linesOf, frame, kind, pair, lineRows}
-use Rattle.frames.proofs.Frames.{Bytes, whole, whole-bytes, whole-sum, line-means, line-well, isHex-hex}
+use Rattle.meaning.specs.Bytes.{Bytes}
+use Rattle.frames.proofs.Frames.{whole, whole-bytes, whole-sum, line-means, line-well, isHex-hex}
 use Rattle.reading.proofs.Lines.{lines-ended, plain-digits}
 
 -- the line that a frame is written as

@@ -24,7 +24,8 @@ use Rattle.reading.specs.Reader.{linkIn, linksIn, entryIn, entriesIn, bonesIn, 
 use Rattle.lines.specs.Kinds.{two, headLine, linkLine, linkLines, cutLines, closeLine}
 use Rattle.inputs.specs.Inputs.{inputText}
 use Rattle.texts.specs.Writers.{unnoted}
-use Rattle.frames.proofs.Frames.{Bytes, bytes-bytesOf, well-parts, line-only}
+use Rattle.meaning.specs.Bytes.{Bytes}
+use Rattle.frames.proofs.Frames.{bytes-bytesOf, well-parts, line-only}
 use Rattle.inputs.proofs.WritesRows.{row-accepted}
 
 -- a text is its lines, one behind the other

@@ -21,7 +21,8 @@ use Rattle.stages.specs.Stages.{follows, after, open-at}
 use Rattle.reading.specs.Reader.{linkIn, linksIn, entryIn, entriesIn, bonesIn, thresholdIn}
 use Rattle.lines.specs.Kinds.{two, headLine, linkLine, linkLines, cutLines, closeLine}
 use Rattle.inputs.specs.Inputs.{inputText}
-use Rattle.frames.proofs.Frames.{Bytes, whole}
+use Rattle.meaning.specs.Bytes.{Bytes}
+use Rattle.frames.proofs.Frames.{whole}
 use Rattle.texts.proofs.RoundTripLines.{lineOf, first-line, frame-is, kind-is, pair-is, row-passed, not-not}
 
 -- runs of bytes

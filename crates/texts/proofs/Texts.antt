@@ -20,7 +20,7 @@ use Rattle.reading.specs.Reader.{linksIn, entriesIn, bonesIn, thresholdIn, read
 use Rattle.lines.specs.Writing.{Writes}
 use Rattle.inputs.specs.Inputs.{inputText, inputRows}
 use Rattle.texts.specs.Writers.{resultText, unnoted}
-use Rattle.frames.proofs.Frames.{Bytes}
+use Rattle.meaning.specs.Bytes.{Bytes}
 use Rattle.inputs.proofs.WritesLinks.{length-input}
 use Rattle.texts.proofs.WritesTexts.{length-result}
 use Rattle.texts.proofs.RoundTripWritten.{Smalls}

@@ -59,7 +59,7 @@ use Rattle.answering.specs.Prints.{groupedRows, Answers}
 use Rattle.answering.specs.Steps.{Ready, AfterGrouping}
 use Rattle.answering.proofs.AfterGroup.{grouping-ready, grouping-answers}
 use Rattle.answering.proofs.AnswerRow.{An, typed-answer, made-answer}
-use Rattle.lent.proofs.Locals.{localTy, here, OwnMut, OwnShared, Back, lends-mut, mut-back, lends-shared, local-room, shared-room, repeat-typed, lies-repeat, big-lit}
+use Rattle.lent.proofs.Locals.{localTy, here, OwnMut, OwnShared, Back, lends-mut, mut-back, lends-shared, local-room, shared-room, repeat-typed, lies-repeat, bytes-known, big-lit}
 use Rattle.answering.proofs.after_grouping as aft
 use Rattle.answering.proofs.after_grouping.Symbol as aft-def
 use Rattle.answering.proofs.after_grouping.Symbol.{name as #after-grouping}
@@ -207,6 +207,7 @@ module _ {M : Type 1} (𝓤 : URA M) (H : Heap 𝓤) (A : Atoms 𝓤) (W : Given
         move ! (3 ∷ 9 ∷ 1 ∷ []) $ use3 W (later (‵ (partAt (Array u8 128) fullShare (ws .1 .1 .1 .1 .0) l₆ 0))) (mut-back u8 128 𝓤 H A W (α ∷ []) γ (ws .1 .1 .1 .1 .0) l₆) $ await ! tt $
         use1 W (‵ (froom (localTy u8 128) l₆ 0)) (local-room u8 128 𝓤 H A W (uint-vals w8) (uint-tells w8) (ws .1 .1 .1 .1 .0) l₆) $
         move ! (2 ∷ 7 ∷ 1 ∷ []) $ use3 W (later (‵ (partAt (Array u8 2667) fullShare (ws .1 .1 .1 .1 .1 .0) l₇ 0))) (mut-back u8 2667 𝓤 H A W (β ∷ []) δ (ws .1 .1 .1 .1 .1 .0) l₇) $ await ! tt $
+        bytes-known ! 2667 (ws .1 .1 .1 .1 .1 .0) l₇ (λ bytes.
         -- [the record space; room for _6; the tokens of record and links; what the given record owns; what the links own; what the text space owns; its token; _16; ..]
         land ! (from ! (stop !)) (init ! 24 refl (typed-answer 𝓤 H A W g v is)) $ assigns ! (addr ! (from ! (stop !))) (from ! (stop !)) (init ! 14 refl (tt, tt)) $
         assigns ! (agg ! (and-then ! (load ! (from ! (stop !)) (look ! 14 refl)) (and-then ! (big-lit ! record { fits = lit< tt }) (no-more !)))) (from ! (stop !)) (init ! 12 refl (tt, (tt, (record { fits = lit< tt }, tt)))) $
@@ -235,7 +236,7 @@ module _ {M : Type 1} (𝓤 : URA M) (H : Heap 𝓤) (A : Atoms 𝓤) (W : Given
         move ! (39 ∷ 40 ∷ []) $ free1 ! $ move ! (37 ∷ 38 ∷ []) $ free1 ! $ move ! (35 ∷ 36 ∷ []) $ free1 ! $ move ! (33 ∷ 34 ∷ []) $ free1 ! $ move ! (31 ∷ 32 ∷ []) $ free1 ! $ move ! (29 ∷ 30 ∷ []) $ free1 ! $ move ! (6 ∷ 28 ∷ []) $ free1 ! $ move ! (1 ∷ 26 ∷ []) $ free1 ! $
         move ! (23 ∷ 24 ∷ []) $ free1 ! $ move ! (21 ∷ 22 ∷ []) $ free1 ! $ move ! (19 ∷ 20 ∷ []) $ free1 ! $ move ! (17 ∷ 18 ∷ []) $ free1 ! $ move ! (15 ∷ 16 ∷ []) $ free1 ! $ move ! (13 ∷ 14 ∷ []) $ free1 ! $ move ! (11 ∷ 12 ∷ []) $ free1 ! $ move ! (9 ∷ 10 ∷ []) $ free1 ! $ move ! (7 ∷ 8 ∷ []) $ free1 ! $ free0 ! $
         move ! (0 ∷ 5 ∷ 1 ∷ 3 ∷ 6 ∷ 4 ∷ 2 ∷ []) $
-        by ! (exits r u (ws₂ .1 .1 .1 .1 .1 .0) len₃ (grouping-answers n k (x .now) (y .now) labels₀ (ws .1 .1 .1 .1 .0) space₀ (ws .1 .1 .1 .1 .1 .0) g many wide e (z .now) (ws₂ .1 .1 .1 .1 .1 .0) r e₂))))))))))))))))))))))))))))))))
+        by ! (exits r u (ws₂ .1 .1 .1 .1 .1 .0) len₃ (grouping-answers n k (x .now) (y .now) labels₀ (ws .1 .1 .1 .1 .0) space₀ (ws .1 .1 .1 .1 .1 .0) g many wide e (z .now) (ws₂ .1 .1 .1 .1 .1 .0) r bytes e₂)))))))))))))))))))))))))))))))))
 
 pub group-read-spec : {M : Type 1} → stated.statement M
 unfolding code.routine tablesOf
