@@ -150,17 +150,3 @@ module _ (n k : ℕ) (good : Bool) (links : List Link) (judged : first (tableRow
             g .answer ∙ ap (λ (j : Judged). answered j (piles n (left n start (cutsOf bytes))) (finished n (pairTally links) k (left n start (cutsOf bytes)))) (rows ∙ e),
             entries-stop n (pairTally links) k (cutsOf bytes) start 0 number place (counted .few-bones) (narrow-cuts (length bytes / entrySize) bytes) e,
           )
-
--- at most one answer and one content of the label space, or of the link space, meets each promise
-pub checking-unique : (n k : ℕ) (good : Bool) (links : List Link) (bytes labels a b : List ℕ) (r s : Answer)
-    → Checking n k good links bytes labels a r → Checking n k good links bytes labels b s → (r ≡ s) × (a ≡ b)
-checking-unique n k good links bytes labels a b r s g h = (g .answer ∙ sym (h .answer), g .names-left ∙ sym (h .names-left))
-
-pub grouping-unique : (n k : ℕ) (good : Bool) (links : List Link) (bytes labels a b space c d : List ℕ) (r s : Answer)
-    → Grouping n k good links bytes labels a space c r → Grouping n k good links bytes labels b space d s → (r ≡ s) × (a ≡ b)
-grouping-unique n k good links bytes labels a b space c d r s g h = (g .answer ∙ sym (h .answer), g .labels-left ∙ sym (h .labels-left))
-
--- for thinning, in whatever form the links are lent
-pub thinning-unique : {A : Type 0} (form : List Link → List A) (rows : List Judged) (n : ℕ) (w : Tally) (k : ℕ) (links : List Link) (space a b : List A) (r s : Thinned)
-    → Thins form rows n w k links space a r → Thins form rows n w k links space b s → (r ≡ s) × (a ≡ b)
-thinning-unique form rows n w k links space a b r s g h = (g .answer ∙ sym (h .answer), g .links-left ∙ sym (h .links-left))

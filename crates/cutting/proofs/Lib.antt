@@ -8,6 +8,7 @@ pub mod Small
 pub mod Carried
 pub mod Judged
 pub mod Demands
+pub mod Unique
 pub mod Labelling
 pub mod Keeping
 pub mod JudgedThin
