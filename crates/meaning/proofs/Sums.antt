@@ -7,7 +7,7 @@ use mathlib.Core.Bool.{Bool, true, false, cond}
 use native.Mathlib.Nat.{le-refl, not-suc-le-zero, eq-or-lt-of-le, le-of-suc-le-suc}
 use native.Mathlib.Numerals.{add-one}
 use native.Mathlib.Omega.{arith}
-use lib.Dec.{eqb}
+use lib.Dec.{T, eqb, eqb→eq}
 use Rattle.meaning.specs.Count.{Bones, sum, count}
 use Rattle.meaning.proofs.Tests.{is-true, is-false, eq→eqb, ne→neqb}
 
@@ -63,6 +63,15 @@ sum-one (suc n) m x h =
 
     at-last : n ≡ m → cond (eqb n m) x 0 ≡ x
     at-last e = ap (λ (t : Bool). cond t x 0) (is-true (eqb n m) (eq→eqb n m e))
+
+-- a term or nought, where the term is looked at only if it counts
+pub cond-same : (t : Bool) {x y : ℕ} → (T t → x ≡ y) → cond t x 0 ≡ cond t y 0
+cond-same true e = e tt
+cond-same false e = refl
+
+-- a sum of which the term at m alone counts
+pub sum-at : (n m : ℕ) (f : ℕ → ℕ) → m < n → sum n (λ b. cond (eqb b m) (f b) 0) ≡ f m
+sum-at n m f h = sum-ext n _ (λ b. cond (eqb b m) (f m) 0) (λ b l. cond-same (eqb b m) (λ t. ap f (eqb→eq b m t))) ∙ sum-one n m (f m) h
 
 pub count-same : (n : ℕ) (X Y : Bones) → ((b : ℕ) → b < n → X b ≡ Y b) → count n X ≡ count n Y
 unfolding count

@@ -1,8 +1,7 @@
 -- Laws of lists of bones: which are listed, two places that change what they hold, and marks counted.
 -- Assumes nothing.
 use Prim.Native.Nat.{ℕ, zero, suc, _+_, _-_, _≤_, _<_}
-use mathlib.Core.Path.{_≡_, refl, sym, _∙_, ap, ap₂, subst}
-use mathlib.Core.Logic.{⊎-elim}
+use mathlib.Core.Path.{_≡_, refl, sym, _∙_, ap, ap₂}
 use mathlib.Core.Bool.{Bool, true, false, cond, not, _&&_, _||_}
 use mathlib.Core.List.{List}
 use native.Mathlib.Nat.{le-refl, not-suc-le-zero}
@@ -10,15 +9,19 @@ use native.Mathlib.Numerals.{add-one}
 use native.Mathlib.Omega.{arith}
 use lib.Dec.{T, eqb, eqb→eq, eqb-refl, T-not, not-T}
 use lib.ListN.{length, getD, set, length-set}
-use lib.Seq.{getD-set-same, getD-set-other}
+use lib.Seq.{lt-length-set, getD-set-same, getD-set-other}
 use Rattle.meaning.specs.Count.{Bones, sum, count, some}
-use Rattle.meaning.proofs.Tests.{both, left-of, right-of, decide, same-test, neqb→ne, ne→neqb}
-use Rattle.meaning.proofs.Sums.{sum-next, sum-ext, sum-zero, sum-add, sum-one, count-most}
+use Rattle.meaning.proofs.Tests.{both, left-of, right-of, is-true, is-false, same-test, eq→eqb, neqb→ne, ne→neqb}
+use Rattle.meaning.proofs.Sums.{sum-next, sum-ext, sum-zero, sum-add, count-most, sum-at}
 use Rattle.meaning.proofs.Sets.{some-intro, some-elim, some-same}
 use Rattle.weighing.specs.Lists.{listed, Once, swapped, marked}
 use Rattle.weighing.specs.Merge.{unmarked}
 
--- what a test chooses
+-- what a test chooses, and what holds of it
+choose : (P : ℕ → Type 0) (t : Bool) (a b : ℕ) → (T t → P a) → (T (not t) → P b) → P (cond t a b)
+choose P true a b f g = f tt
+choose P false a b f g = g tt
+
 pub cond-yes : (t : Bool) (a b : ℕ) → T t → cond t a b ≡ a
 cond-yes true a b h = refl
 cond-yes false a b h = absurd h
@@ -33,7 +36,7 @@ listed-at xs m i h = some-intro m _ i h (eqb-refl (getD xs i 0))
 
 -- a bone that stands in a place is listed
 pub listed-by : (xs : List ℕ) (m i b : ℕ) → i < m → getD xs i 0 ≡ b → T (listed xs m b)
-listed-by xs m i b h e = subst (λ (x : ℕ). T (listed xs m x)) e (listed-at xs m i h)
+listed-by xs m i b h e = rw e at (listed-at xs m i h)
 
 pub listed-place : (xs : List ℕ) (m b : ℕ) → T (listed xs m b) → (i : ℕ) × (i < m) × (getD xs i 0 ≡ b)
 unfolding listed
@@ -42,9 +45,6 @@ listed-place xs m b t = let r = some-elim m (λ i. eqb (getD xs i 0) b) t in (r 
 pub listed-none : (xs : List ℕ) (b : ℕ) → T (not (listed xs 0 b))
 unfolding listed some
 listed-none xs b = tt
-
-pub none-listed : (xs : List ℕ) (b : ℕ) → T (listed xs 0 b) → ⊥
-none-listed xs b = T-not (listed xs 0 b) (listed-none xs b)
 
 -- a set with one bone more
 abbrev pub with-one : Bones → ℕ → Bones
@@ -56,8 +56,7 @@ unfolding listed some
 listed-more xs m = ap (listed xs) (add-one m)
 
 pub listed-next : (xs : List ℕ) (m b : ℕ) → listed xs (m + 1) b ≡ (listed xs m b || eqb (getD xs m 0) b)
-unfolding listed some
-listed-next xs m b = ap (λ (k : ℕ). some k (λ i. eqb (getD xs i 0) b)) (add-one m)
+listed-next xs m b = rw listed-more
 
 pub listed-less : (xs : List ℕ) (l m b : ℕ) → l ≤ m → T (listed xs l b) → T (listed xs m b)
 listed-less xs l m b h t = let r = listed-place xs l b t in listed-by xs m (r .0) b (omega arith) (r .2)
@@ -83,46 +82,27 @@ once-less so h =
       once = λ i j hi hj e. so .once i j (omega arith) (omega arith) e;
     }
 
--- a bone that is not in the next place is listed with it as without
-listed-same : (xs : List ℕ) (m b : ℕ) → (getD xs m 0 ≡ b → ⊥) → listed xs m b ≡ listed xs (suc m) b
-listed-same xs m b n =
-    same-test _ _ (listed-less xs m (suc m) b (omega arith))
-    (λ t. let r = listed-place xs (suc m) b t in
-    let off : r .0 ≡ m → ⊥ = λ q. n (ap (λ (z : ℕ). getD xs z 0) (sym q) ∙ r .2) in
-    listed-by xs m (r .0) b (omega arith) (r .2))
-
-sum-none : (f : ℕ → ℕ) → sum 0 f ≡ 0
-unfolding sum
-sum-none f = refl
-
-sum-suc : (m : ℕ) (f : ℕ → ℕ) → sum (suc m) f ≡ sum m f + f m
-unfolding sum
-sum-suc m f = refl
-
 -- a sum over the places is one over the bones
 pub listed-sum : {xs : List ℕ} {m : ℕ} → Once xs m → (f : ℕ → ℕ) → sum m (λ i. f (getD xs i 0)) ≡ sum 128 (λ b. cond (listed xs m b) (f b) 0)
-listed-sum {xs} {m = zero} so f = sum-none _ ∙ sym (sum-ext 128 _ (λ b. 0) (λ b h. cond-no (listed xs 0 b) (f b) 0 (listed-none xs b)) ∙ sum-zero 128)
+unfolding sum listed some
+listed-sum {m = zero} so f = sym (sum-zero 128)
 listed-sum {xs} {m = suc m} so f =
-    sum-suc m _
-    ∙ ap₂ _+_ (listed-sum {m = m} (once-less so (omega arith)) f) (sym (sum-one 128 (getD xs m 0) (f (getD xs m 0)) (so .low m (le-refl (suc m)))))
-    ∙ sym (sum-add 128 (λ b. cond (listed xs m b) (f b) 0) (λ b. cond (eqb b (getD xs m 0)) (f (getD xs m 0)) 0))
-    ∙ sum-ext 128 _ _ (λ b h. ⊎-elim (here b) (away b) (decide (eqb b (getD xs m 0))))
+    ap₂ _+_ (listed-sum {m = m} (once-less so (omega arith)) f) (sym (sum-at 128 (getD xs m 0) f (so .low m (le-refl (suc m)))))
+    ∙ sym (sum-add 128 (λ b. cond (listed xs m b) (f b) 0) (λ b. cond (eqb b (getD xs m 0)) (f b) 0))
+    ∙ sum-ext 128 _ _ (λ b h. in-one (listed xs m b) (eqb b (getD xs m 0)) (eqb (getD xs m 0) b) (f b) (turned b) (apart b))
   where
-    here : (b : ℕ) → T (eqb b (getD xs m 0)) → cond (listed xs m b) (f b) 0 + cond (eqb b (getD xs m 0)) (f (getD xs m 0)) 0 ≡ cond (listed xs (suc m) b) (f b) 0
-    here b e =
-        let q : b ≡ getD xs m 0 = eqb→eq b (getD xs m 0) e in
-        let before : T (not (listed xs m b)) = subst (λ (y : ℕ). T (not (listed xs m y))) (sym q) (listed-not so m m (le-refl m) (le-refl (suc m))) in
-        omega (
-          arith,
-          cond-no (listed xs m b) (f b) 0 before,
-          cond-yes (eqb b (getD xs m 0)) (f (getD xs m 0)) 0 e,
-          cond-yes (listed xs (suc m) b) (f b) 0 (listed-by xs (suc m) m b (le-refl (suc m)) (sym q)),
-          ap f q,
-        )
+    in-one : (p q r : Bool) (x : ℕ) → q ≡ r → T (not (p && r)) → cond p x 0 + cond q x 0 ≡ cond (p || r) x 0
+    in-one true q false x e n = rw e (omega arith)
+    in-one false q r x e n = rw e (omega arith)
 
-    away : (b : ℕ) → T (not (eqb b (getD xs m 0))) → cond (listed xs m b) (f b) 0 + cond (eqb b (getD xs m 0)) (f (getD xs m 0)) 0 ≡ cond (listed xs (suc m) b) (f b) 0
-    away b n =
-        omega (arith, cond-no (eqb b (getD xs m 0)) (f (getD xs m 0)) 0 n, ap (λ (t : Bool). cond t (f b) 0) (listed-same xs m b (λ q. neqb→ne b (getD xs m 0) n (sym q))))
+    turned : (b : ℕ) → eqb b (getD xs m 0) ≡ eqb (getD xs m 0) b
+    turned b = same-test _ _ (λ t. eq→eqb (getD xs m 0) b (sym (eqb→eq b _ t))) (λ t. eq→eqb b (getD xs m 0) (sym (eqb→eq _ b t)))
+
+    apart : (b : ℕ) → T (not (listed xs m b && eqb (getD xs m 0) b))
+    apart b =
+        not-T (listed xs m b && eqb (getD xs m 0) b)
+        (λ t. let q = eqb→eq (getD xs m 0) b (right-of (listed xs m b) _ t) in
+        T-not (listed xs m b) (rw (← q) (listed-not so m m (le-refl m) (le-refl (suc m)))) (left-of (listed xs m b) _ t))
 
 -- ---- two places change what they hold
 
@@ -130,130 +110,78 @@ listed-sum {xs} {m = suc m} so f =
 turn : ℕ → ℕ → ℕ → ℕ
 turn i j k = cond (eqb k j) i (cond (eqb k i) j k)
 
-data Turn (i j k : ℕ) : Type 0 where
-  last : k ≡ j → turn i j k ≡ i → Turn i j k
-  first : (k ≡ j → ⊥) → k ≡ i → turn i j k ≡ j → Turn i j k
-  apart : (k ≡ j → ⊥) → (k ≡ i → ⊥) → turn i j k ≡ k → Turn i j k
-
-turned : (i j k : ℕ) → Turn i j k
+turn-by : (P : ℕ → Type 0) (i j k : ℕ) → (k ≡ j → P i) → ((k ≡ j → ⊥) → k ≡ i → P j) → ((k ≡ j → ⊥) → (k ≡ i → ⊥) → P k) → P (turn i j k)
 unfolding turn
-turned i j k =
-    ⊎-elim
-    (λ e. last (eqb→eq k j e) (cond-yes (eqb k j) i _ e))
-    (λ n. ⊎-elim
-    (λ e. first (neqb→ne k j n) (eqb→eq k i e) (cond-no (eqb k j) i _ n ∙ cond-yes (eqb k i) j k e))
-    (λ o. apart (neqb→ne k j n) (neqb→ne k i o) (cond-no (eqb k j) i _ n ∙ cond-no (eqb k i) j k o))
-    (decide (eqb k i)))
-    (decide (eqb k j))
+turn-by P i j k f g h =
+    choose P (eqb k j) i (cond (eqb k i) j k) (λ e. f (eqb→eq k j e))
+    (λ n. choose P (eqb k i) j k (λ e. g (neqb→ne k j n) (eqb→eq k i e)) (λ o. h (neqb→ne k j n) (neqb→ne k i o)))
 
-turn-low : (i j k m : ℕ) → i < m → j < m → k < m → turn i j k < m
-turn-low i j k m hi hj hk = go (turned i j k)
-  where
-    go : Turn i j k → turn i j k < m
-    go (last e t) = omega arith
-    go (first n e t) = omega arith
-    go (apart n o t) = omega arith
+turn-last : (i j : ℕ) → turn i j j ≡ i
+turn-last i j = turn-by (λ z. z ≡ i) i j j (λ e. refl) (λ n e. e) (λ n o. absurd (n refl))
 
 turn-turn : (i j k : ℕ) → turn i j (turn i j k) ≡ k
-turn-turn i j k = go (turned i j k) (turned i j (turn i j k))
-  where
-    go : Turn i j k → Turn i j (turn i j k) → turn i j (turn i j k) ≡ k
-    go (last e t) (last f u) = omega arith
-    go (last e t) (first o f u) = omega arith
-    go (last e t) (apart o p u) = omega arith
-    go (first n e t) (last f u) = omega arith
-    go (first n e t) (first o f u) = omega arith
-    go (first n e t) (apart o p u) = omega arith
-    go (apart n e t) (last f u) = omega arith
-    go (apart n e t) (first o f u) = omega arith
-    go (apart n e t) (apart o p u) = omega arith
-
-swapped-at : (xs : List ℕ) (i j k : ℕ) → i < length xs → j < length xs → getD (swapped xs i j) k 0 ≡ getD xs (turn i j k) 0
-unfolding swapped
-swapped-at xs i j k hi hj = go (turned i j k)
-  where
-    go : Turn i j k → getD (swapped xs i j) k 0 ≡ getD xs (turn i j k) 0
-    go (last e t) =
-        ap (λ (z : ℕ). getD (swapped xs i j) z 0) e
-        ∙ getD-set-same (set xs i (getD xs j 0)) j _ 0 (omega (arith, length-set xs i (getD xs j 0)))
-        ∙ ap (λ (z : ℕ). getD xs z 0) (sym t)
-    go (first n e t) =
-        getD-set-other (set xs i (getD xs j 0)) j k _ 0 n
-        ∙ ap (λ (z : ℕ). getD (set xs i (getD xs j 0)) z 0) e
-        ∙ getD-set-same xs i _ 0 hi
-        ∙ ap (λ (z : ℕ). getD xs z 0) (sym t)
-    go (apart n o t) = getD-set-other (set xs i (getD xs j 0)) j k _ 0 n ∙ getD-set-other xs i k _ 0 o ∙ ap (λ (z : ℕ). getD xs z 0) (sym t)
+turn-turn i j k =
+    turn-by (λ z. turn i j z ≡ k) i j k
+    (λ e. turn-by (λ z. z ≡ k) i j i (λ q. q ∙ sym e) (λ n q. sym e) (λ n o. absurd (o refl)))
+    (λ n e. turn-last i j ∙ sym e)
+    (λ n o. turn-by (λ z. z ≡ k) i j k (λ e. absurd (n e)) (λ m e. absurd (o e)) (λ m q. refl))
 
 -- the bone in a place changes places with the last of the first `left`
 module _ (xs : List ℕ) (at left : ℕ) (long : length xs ≡ 128) (here : at < left) (room : left ≤ 128) where
-  from : ℕ → ℕ
+  abbrev from : ℕ → ℕ
   from k = turn at (left - 1) k
 
-  now-at : (k : ℕ) → getD (swapped xs at (left - 1)) k 0 ≡ getD xs (from k) 0
-  unfolding from
-  now-at k = swapped-at xs at (left - 1) k (omega arith) (omega arith)
+  abbrev after : List ℕ
+  after = swapped xs at (left - 1)
+
+  now-at : (k : ℕ) → getD after k 0 ≡ getD xs (from k) 0
+  unfolding swapped
+  now-at k =
+      turn-by (λ z. getD after k 0 ≡ getD xs z 0) at (left - 1) k
+      (λ e. rw e (getD-set-same (set xs at _) (left - 1) _ 0 (lt-length-set xs at _ (omega arith))))
+      (λ n e. getD-set-other (set xs at _) (left - 1) k _ 0 n ∙ rw e (getD-set-same xs at _ 0 (omega arith)))
+      (λ n o. getD-set-other (set xs at _) (left - 1) k _ 0 n ∙ getD-set-other xs at k _ 0 o)
+
+  then-at : (k : ℕ) → getD after (from k) 0 ≡ getD xs k 0
+  then-at k = now-at (from k) ∙ rw (turn-turn at (left - 1) k)
 
   from-low : (M k : ℕ) → left ≤ M → k < M → from k < M
-  unfolding from
-  from-low M k h l = turn-low at (left - 1) k M (omega arith) (omega arith) l
+  from-low M k h l = turn-by (λ z. z < M) at (left - 1) k (λ e. omega arith) (λ n e. omega arith) (λ n o. l)
 
-  from-from : (k : ℕ) → from (from k) ≡ k
-  unfolding from
-  from-from k = turn-turn at (left - 1) k
+  pub swapped-last : getD after (left - 1) 0 ≡ getD xs at 0
+  swapped-last = now-at (left - 1) ∙ rw (turn-last at (left - 1))
 
-  from-last : from (left - 1) ≡ at
-  unfolding from
-  from-last = go (turned at (left - 1) (left - 1))
-    where
-      go : Turn at (left - 1) (left - 1) → turn at (left - 1) (left - 1) ≡ at
-      go (last e t) = t
-      go (first n e t) = absurd (n refl)
-      go (apart n o t) = absurd (n refl)
+  pub swapped-above : (i : ℕ) → left ≤ i → getD after i 0 ≡ getD xs i 0
+  swapped-above i h = now-at i ∙ turn-by (λ z. getD xs z 0 ≡ getD xs i 0) at (left - 1) i (λ e. absurd (omega arith)) (λ n e. absurd (omega arith)) (λ n o. refl)
 
-  pub swapped-long : length (swapped xs at (left - 1)) ≡ 128
+  pub swapped-once : {M : ℕ} → left ≤ M → Once xs M → Once after M
   unfolding swapped
-  swapped-long = length-set (set xs at (getD xs (left - 1) 0)) (left - 1) (getD xs at 0) ∙ length-set xs at (getD xs (left - 1) 0) ∙ long
-
-  pub swapped-last : getD (swapped xs at (left - 1)) (left - 1) 0 ≡ getD xs at 0
-  swapped-last = now-at (left - 1) ∙ ap (λ (z : ℕ). getD xs z 0) from-last
-
-  pub swapped-above : (i : ℕ) → left ≤ i → getD (swapped xs at (left - 1)) i 0 ≡ getD xs i 0
-  unfolding swapped
-  swapped-above i h =
-      getD-set-other (set xs at (getD xs (left - 1) 0)) (left - 1) i (getD xs at 0) 0 (λ q. omega arith)
-      ∙ getD-set-other xs at i (getD xs (left - 1) 0) 0 (λ q. omega arith)
-
-  pub swapped-once : {M : ℕ} → left ≤ M → Once xs M → Once (swapped xs at (left - 1)) M
   swapped-once {M} h so =
       record {
-        long = swapped-long;
+        long = simp length-set long;
         few = so .few;
         low = λ i l. omega (arith, now-at i, so .low (from i) (from-low M i h l));
-        once = λ i j hi hj e. sym (from-from i) ∙ ap from (so .once (from i) (from j) (from-low M i h hi) (from-low M j h hj) (sym (now-at i) ∙ e ∙ now-at j)) ∙ from-from j;
+        once = λ i j hi hj e.
+            let same = so .once (from i) (from j) (from-low M i h hi) (from-low M j h hj) (sym (now-at i) ∙ e ∙ now-at j) in
+            cc (turn-turn at (left - 1) i, turn-turn at (left - 1) j);
       }
 
-  pub swapped-listed : (M b : ℕ) → left ≤ M → listed (swapped xs at (left - 1)) M b ≡ listed xs M b
+  pub swapped-listed : (M b : ℕ) → left ≤ M → listed after M b ≡ listed xs M b
   swapped-listed M b h =
       same-test _ _
-      (λ t. let r = listed-place (swapped xs at (left - 1)) M b t in listed-by xs M (from (r .0)) b (from-low M (r .0) h (r .1)) (sym (now-at (r .0)) ∙ r .2))
-      (λ t. let r = listed-place xs M b t in
-      listed-by (swapped xs at (left - 1)) M (from (r .0)) b (from-low M (r .0) h (r .1))
-      (now-at (from (r .0)) ∙ ap (λ (z : ℕ). getD xs z 0) (from-from (r .0)) ∙ r .2))
+      (λ t. let r = listed-place after M b t in listed-by xs M (from (r .0)) b (from-low M (r .0) h (r .1)) (sym (now-at (r .0)) ∙ r .2))
+      (λ t. let r = listed-place xs M b t in listed-by after M (from (r .0)) b (from-low M (r .0) h (r .1)) (then-at (r .0) ∙ r .2))
 
   -- those before the last are the others
-  pub swapped-free : {M : ℕ} → left ≤ M → Once xs M → (b : ℕ) → listed (swapped xs at (left - 1)) (left - 1) b ≡ (listed xs left b && not (eqb b (getD xs at 0)))
+  pub swapped-free : {M : ℕ} → left ≤ M → Once xs M → (b : ℕ) → listed after (left - 1) b ≡ (listed xs left b && not (eqb b (getD xs at 0)))
   swapped-free h so b =
-      same-test _ _
-      (λ t. let r = listed-place (swapped xs at (left - 1)) (left - 1) b t in
-      let e : getD xs (from (r .0)) 0 ≡ b = sym (now-at (r .0)) ∙ r .2 in
-      let l : from (r .0) < left = from-low left (r .0) (le-refl left) (omega arith) in
-      both (listed xs left b) (not (eqb b (getD xs at 0))) (listed-by xs left (from (r .0)) b l e)
-      (ne→neqb b (getD xs at 0) (λ q. omega (arith, sym (from-from (r .0)) ∙ ap from (so .once (from (r .0)) at (omega arith) (omega arith) (e ∙ q) ∙ sym from-last) ∙ from-from (left - 1)))))
-      (λ t. let r = listed-place xs left b (left-of (listed xs left b) (not (eqb b (getD xs at 0))) t) in
-      let e : getD (swapped xs at (left - 1)) (from (r .0)) 0 ≡ b = now-at (from (r .0)) ∙ ap (λ (z : ℕ). getD xs z 0) (from-from (r .0)) ∙ r .2 in
-      let l : from (r .0) < left = from-low left (r .0) (le-refl left) (r .1) in
-      let n : from (r .0) ≡ left - 1 → ⊥ = λ q. neqb→ne b (getD xs at 0) (right-of (listed xs left b) (not (eqb b (getD xs at 0))) t) (sym (r .2) ∙ ap (λ (z : ℕ). getD xs z 0) (sym (from-from (r .0)) ∙ ap from q ∙ from-last)) in
-      listed-by (swapped xs at (left - 1)) (left - 1) (from (r .0)) b (omega arith) e)
+      same-test (listed after (left - 1) b) _
+      (λ t. both (listed xs left b) (not (eqb b (getD xs at 0)))
+      (rw (swapped-listed left b (le-refl left)) at (listed-less after (left - 1) left b (omega arith) t))
+      (ne→neqb b (getD xs at 0) (λ e. T-not (listed after (left - 1) b) (rw (e, ← swapped-last) (listed-not (swapped-once h so) (left - 1) (left - 1) (le-refl _) (omega arith))) t)))
+      (λ t. let r = listed-place after left b (rw (swapped-listed left b (le-refl left)) (left-of (listed xs left b) _ t)) in
+      let n : r .0 ≡ left - 1 → ⊥ = λ q. neqb→ne b (getD xs at 0) (right-of (listed xs left b) _ t) (sym (r .2) ∙ rw q swapped-last) in
+      listed-by after (left - 1) (r .0) b (omega arith) (r .2))
 
 -- ---- marks counted
 
@@ -270,21 +198,14 @@ unfolding unmarked count
 unmarked-next joins m = sum-next m _
 
 pub unmarked-tied : (joins : List ℕ) (m : ℕ) → T (marked joins m) → unmarked joins (m + 1) ≡ unmarked joins m
-unmarked-tied joins m t = omega (arith, unmarked-next joins m, cond-no (not (marked joins m)) 1 0 (not-not (marked joins m) t))
-  where
-    not-not : (b : Bool) → T b → T (not (not b))
-    not-not true t = tt
-    not-not false t = t
+unmarked-tied joins m t = omega (arith, rw (is-true (marked joins m) t) at (unmarked-next joins m))
 
 pub unmarked-head : (joins : List ℕ) (m : ℕ) → T (not (marked joins m)) → unmarked joins (m + 1) ≡ unmarked joins m + 1
-unmarked-head joins m t = omega (arith, unmarked-next joins m, cond-yes (not (marked joins m)) 1 0 t)
+unmarked-head joins m t = omega (arith, rw (is-false (marked joins m) t) at (unmarked-next joins m))
 
 pub unmarked-less : (joins : List ℕ) (m : ℕ) → T (marked joins 0) → 0 < m → unmarked joins m < m
 unmarked-less joins zero t h = absurd (not-suc-le-zero h)
 unmarked-less joins (suc zero) t h = omega (arith, unmarked-tied joins 0 t, unmarked-none joins)
 unmarked-less joins (suc (suc m)) t h =
-    omega (arith, unmarked-less joins (suc m) t (omega arith), unmarked-next joins (suc m), ap (unmarked joins) (add-one (suc m)), at-most (not (marked joins (suc m))))
-  where
-    at-most : (b : Bool) → cond b 1 0 ≤ 1
-    at-most true = le-refl 1
-    at-most false = omega arith
+    let most = choose (λ z. z ≤ 1) (not (marked joins (suc m))) 1 0 (λ u. le-refl 1) (λ u. omega arith) in
+    omega (arith, unmarked-less joins (suc m) t (omega arith), unmarked-next joins (suc m), ap (unmarked joins) (add-one (suc m)))

@@ -13,7 +13,7 @@ use Rattle.meaning.specs.Count.{Bones, sum, some}
 use Rattle.meaning.specs.Tally.{Tally, weight}
 use Rattle.meaning.specs.Heap.{Heap, Cut, Lawful, pile, stands}
 use Rattle.meaning.proofs.Tests.{taut, so, _⊃_, both, left-of, right-of, decide, is-true, is-false, same-test, eq→eqb, neqb→ne, ne→neqb}
-use Rattle.meaning.proofs.Sums.{sum-ext, sum-one}
+use Rattle.meaning.proofs.Sums.{sum-ext, sum-at}
 use Rattle.meaning.proofs.Totals.{Symmetric}
 use Rattle.meaning.proofs.Sets.{some-intro, some-elim, some-same}
 use Rattle.meaning.proofs.Firm.{weight-same, weight-other, weight-inside}
@@ -26,14 +26,6 @@ use Rattle.weighing.specs.Lists.{marked}
 use Rattle.weighing.specs.Degrees.{toward, others, mate, degree, joined, moves, Loosed}
 use Rattle.weighing.specs.Search.{cutOf}
 use Rattle.weighing.specs.declared.search.Split.{Split}
-
--- a sum of which the term at m alone counts
-sum-at : (n m : ℕ) (f : ℕ → ℕ) → m < n → sum n (λ b. cond (eqb b m) (f b) 0) ≡ f m
-sum-at n m f h = sum-ext n _ (λ b. cond (eqb b m) (f m) 0) (λ b l. same (eqb b m) (λ t. ap f (eqb→eq b m t))) ∙ sum-one n m (f m) h
-  where
-    same : (t : Bool) {x y : ℕ} → (T t → x ≡ y) → cond t x 0 ≡ cond t y 0
-    same true e = e tt
-    same false e = refl
 
 module _ (n : ℕ) (w : Tally) (h : Heap) (u : ℕ) (low : u < n) where
   -- a bone against the rest of its pile weighs its degree

@@ -2,19 +2,20 @@
 -- bounds: the tally of a free bone to those taken is no more than any split weighs that parts it from the bone taken last.
 -- Assumes nothing.
 use Prim.Native.Nat.{ℕ, _+_, _≤_, _<_}
-use mathlib.Core.Path.{_≡_, refl, sym, _∙_, ap, subst}
+use mathlib.Core.Path.{_≡_, refl, sym, _∙_, ap, fun-ext}
 use mathlib.Core.Logic.{⊎-elim}
 use mathlib.Core.Bool.{Bool, true, false, cond, not, _&&_, _||_, Bool·beq}
 use native.Mathlib.Nat.{le-trans, le-of-eq}
 use native.Mathlib.Omega.{arith}
-use lib.Dec.{T, eqb, eqb→eq}
+use lib.Dec.{T, eqb, eqb→eq, eqb-refl, T-not}
 use Rattle.meaning.specs.Count.{Bones, sum}
 use Rattle.meaning.specs.Tally.{Tally, total, weight}
-use Rattle.meaning.proofs.Tests.{_⇒_, imp, taut, so, _⊃_, decide, same-test}
-use Rattle.meaning.proofs.Sums.{sum-ext, sum-add, sum-one, sum-swap, sum-zero}
-use Rattle.meaning.proofs.Totals.{Pairs, parts, Symmetric, total-mono, total-parts, total-ext, total-turn}
+use Rattle.meaning.proofs.Tests.{_⇒_, imp, taut, so, _⊃_, decide, same-test, both, left-of, right-of, or-left, or-right, neqb→ne, ne→neqb}
+use Rattle.meaning.proofs.Sums.{sum-ext, sum-add, sum-one, sum-zero, sum-at}
+use Rattle.meaning.proofs.Totals.{Pairs, parts, Symmetric, total-mono, total-parts, total-ext}
 use Rattle.meaning.proofs.Firm.{other, weight-other, weight-within}
 use Rattle.weighing.specs.Scan.{Tied}
+use Rattle.weighing.proofs.Listing.{cond-no}
 
 -- two tests that never pass together weigh no more than one that holds both
 pub total-two : (n : ℕ) (w : Tally) (R P Q : Pairs) → ((i j : ℕ) → i < n → j < n → T ((P i j ⇒ R i j) && (Q i j ⇒ R i j) && not (P i j && Q i j))) → total n w P + total n w Q ≤ total n w R
@@ -25,20 +26,11 @@ total-two n w R P Q t =
 
 -- two tests that agree
 pub same-beq : (a b : Bool) → a ≡ b → T (Bool·beq a b)
-same-beq true b e = subst (λ (c : Bool). T (Bool·beq true c)) e tt
-same-beq false b e = subst (λ (c : Bool). T (Bool·beq false c)) e tt
+same-beq a b e = rw e (taut 1 (λ c. so (Bool·beq c c)) tt b)
 
 -- a test that passes at x passes wherever the bone is x
 pub at-bone : (P : Bones) (x y : ℕ) → T (P x) → T (eqb y x ⇒ P y)
-at-bone P x y t = imp (eqb y x) (P y) (λ e. subst (λ (z : ℕ). T (P z)) (sym (eqb→eq y x e)) t)
-
--- a sum of which the term at m alone counts
-pub sum-at : (n m : ℕ) (f : ℕ → ℕ) → m < n → sum n (λ b. cond (eqb b m) (f b) 0) ≡ f m
-sum-at n m f h = sum-ext n _ (λ b. cond (eqb b m) (f m) 0) (λ b l. same (eqb b m) (λ t. ap f (eqb→eq b m t))) ∙ sum-one n m (f m) h
-  where
-    same : (t : Bool) {x y : ℕ} → (T t → x ≡ y) → cond t x 0 ≡ cond t y 0
-    same true e = e tt
-    same false e = refl
+at-bone P x y t = imp (eqb y x) (P y) (λ e. rw (eqb→eq y x e) t)
 
 pub cond-and : (a b : Bool) (x : ℕ) → cond (a && b) x 0 ≡ cond a (cond b x 0) 0
 cond-and true b x = refl
@@ -75,82 +67,84 @@ Greatest w L free u = (x : ℕ) → x < 128 → T (free x) → tie w (taken L fr
 -- nothing was taken yet
 pub tie-none : (w : Tally) (L free : Bones) (x : ℕ) → ((b : ℕ) → T (L b) → T (free b)) → tie w (taken L free) x ≡ 0
 unfolding tie taken
-tie-none w L free x all = sum-ext 128 _ (λ i. 0) (λ i h. off (L i) (free i) (w i x) (all i)) ∙ sum-zero 128
-  where
-    off : (a b : Bool) (y : ℕ) → (T a → T b) → cond (a && not b) y 0 ≡ 0
-    off true true y f = refl
-    off true false y f = absurd (f tt)
-    off false b y f = refl
+tie-none w L free x all =
+    sum-ext 128 _ (λ i. 0) (λ i h. cond-no (taken L free i) (w i x) 0 (taut 2 (λ a b. (a ⇒ b) ⊃ so (not (a && not b))) tt (L i) (free i) (imp (L i) (free i) (all i)))) ∙ sum-zero 128
+
+-- a split that parts u and x weighs more among Y, which holds both, than among X, which does not: at least by their tally
+pair-more : (w : Tally) (X Y d : Bones) (u x : ℕ) → u < 128 → x < 128 → ((b : ℕ) → T (X b ⇒ Y b)) → T (Y u) → T (Y x) → T (not (X u && X x)) → T (d u) → T (not (d x))
+    → w u x + weight 128 w X d ≤ weight 128 w Y d
+unfolding weight
+pair-more w X Y d u x ulow xlow within yu yx apart du dx =
+    rw (← total-one 128 w u x ulow xlow)
+    (total-two 128 w _ _ _
+    (λ i j hi hj. taut 8
+    (λ e h x y a x′ y′ b. (x ⇒ y) ⊃ (x′ ⇒ y′) ⊃ (e ⇒ y) ⊃ (h ⇒ y′) ⊃ (e ⇒ a) ⊃ (h ⇒ not b) ⊃ (e && h ⇒ not (x && x′))
+    ⊃ so ((e && h ⇒ (y && a) && (y′ && not b)) && ((x && a) && (x′ && not b) ⇒ (y && a) && (y′ && not b)) && not ((e && h) && ((x && a) && (x′ && not b)))))
+    tt
+    (eqb i u) (eqb j x) (X i) (Y i) (d i) (X j) (Y j) (d j)
+    (within i) (within j) (at-bone Y u i yu) (at-bone Y x j yx) (at-bone d u i du) (at-bone (other d) x j dx)
+    (imp (eqb i u && eqb j x) _ (λ t. rw (eqb→eq i u (left-of (eqb i u) (eqb j x) t), eqb→eq j x (right-of (eqb i u) (eqb j x) t)) apart))))
 
 module _ (w : Tally) (symmetric : Symmetric w) (L free free′ : Bones) (u : ℕ) (low : u < 128) (inside : T (L u)) (isfree : T (free u)) (closed : (x : ℕ) → free′ x ≡ (free x && not (eqb x u))) where
-  closed-at : (i : ℕ) → T (Bool·beq (free′ i) (free i && not (eqb i u)))
-  closed-at i = same-beq _ _ (closed i)
+  -- u is one more that is taken, and was none before
+  one-more : taken L free′ ≡ (λ b. taken L free b || eqb b u)
+  unfolding taken
+  one-more =
+      fun-ext
+      (λ b. rw (closed b)
+      (same-test _ _ (taut 3 (λ s o e. (s && not (o && not e)) ⊃ so ((s && not o) || e)) tt (L b) (free b) (eqb b u))
+      (taut 3 (λ s o e. (e ⇒ s) ⊃ ((s && not o) || e) ⊃ so (s && not (o && not e))) tt (L b) (free b) (eqb b u) (at-bone L u b inside))))
+
+  free-not : (b : ℕ) → T (free b) → T (not (taken L free b))
+  unfolding taken
+  free-not b t = taut 2 (λ s o. o ⊃ so (not (s && not o))) tt (L b) (free b) t
 
   -- taking u adds its tally
   pub tie-taken : (x : ℕ) → tie w (taken L free′) x ≡ tie w (taken L free) x + w u x
-  unfolding tie taken
+  unfolding tie
   tie-taken x =
-      sum-ext 128 _ _ (λ i h. split (L i) (free i) (free′ i) (eqb i u) (w i x) (closed-at i) (at-bone free u i isfree) (at-bone L u i inside))
-      ∙ sum-add 128 (λ i. cond (L i && not (free i)) (w i x) 0) (λ i. cond (eqb i u) (w i x) 0)
-      ∙ ap (λ (y : ℕ). sum 128 (λ i. cond (L i && not (free i)) (w i x) 0) + y) (sum-at 128 u (λ i. w i x) low)
+      rw one-more
+      (sum-ext 128 _ _ (λ i h. join (taken L free i) (eqb i u) (w i x) (at-bone (other (taken L free)) u i (free-not u isfree)))
+      ∙ sum-add 128 (λ i. cond (taken L free i) (w i x) 0) (λ i. cond (eqb i u) (w i x) 0)
+      ∙ (rw (sum-at 128 u (λ i. w i x) low)))
     where
-      split : (s o o′ e : Bool) (y : ℕ) → T (Bool·beq o′ (o && not e)) → T (e ⇒ o) → T (e ⇒ s) → cond (s && not o′) y 0 ≡ cond (s && not o) y 0 + cond e y 0
-      split true true true true y c f g = absurd c
-      split true true true false y c f g = refl
-      split true true false true y c f g = omega arith
-      split true true false false y c f g = absurd c
-      split true false true e y c f g = absurd c
-      split true false false true y c f g = absurd f
-      split true false false false y c f g = omega arith
-      split false o o′ true y c f g = absurd g
-      split false o o′ false y c f g = refl
-
-  module _ (d : Bones) (x : ℕ) (xlow : x < 128) (xfree : T (free′ x)) (du : T (d u)) (dx : T (not (d x))) where
-    -- the tally of u and x is more than what the split weighs among those taken and x, or among those taken and u
-    more-here : w u x + weight 128 w (λ b. taken L free b || eqb b x) d ≤ weight 128 w (λ b. taken L free′ b || eqb b x) d
-    unfolding taken weight
-    more-here =
-        subst (λ (y : ℕ). y + weight 128 w (λ b. taken L free b || eqb b x) d ≤ weight 128 w (λ b. taken L free′ b || eqb b x) d) (total-one 128 w u x low xlow)
-        (total-two 128 w _ _ _
-        (λ i j hi hj. taut 12
-        (λ s o o′ e f a t p p′ g h b. (Bool·beq o′ (o && not e)) ⊃ (e ⇒ o) ⊃ (e ⇒ s) ⊃ (e ⇒ a) ⊃ (f ⇒ not a) ⊃ (Bool·beq p′ (p && not g)) ⊃ (h ⇒ not b)
-        ⊃ so
-        ((e && h ⇒ (((s && not o′) || f) && a) && (((t && not p′) || h) && not b))
-        && ((((s && not o) || f) && a) && (((t && not p) || h) && not b) ⇒ (((s && not o′) || f) && a) && (((t && not p′) || h) && not b))
-        && not ((e && h) && ((((s && not o) || f) && a) && (((t && not p) || h) && not b)))))
-        tt
-        (L i) (free i) (free′ i) (eqb i u) (eqb i x) (d i) (L j) (free j) (free′ j) (eqb j u) (eqb j x) (d j)
-        (closed-at i) (at-bone free u i isfree) (at-bone L u i inside) (at-bone d u i du) (at-bone (other d) x i dx) (closed-at j) (at-bone (other d) x j dx)))
-
-    more-there : w u x + weight 128 w (λ b. taken L free b || eqb b u) d ≤ weight 128 w (λ b. taken L free′ b || eqb b x) d
-    unfolding taken weight
-    more-there =
-        subst (λ (y : ℕ). y + weight 128 w (λ b. taken L free b || eqb b u) d ≤ weight 128 w (λ b. taken L free′ b || eqb b x) d) (total-one 128 w u x low xlow)
-        (total-two 128 w _ _ _
-        (λ i j hi hj. taut 12
-        (λ s o o′ e f a t p p′ g h b. (Bool·beq o′ (o && not e)) ⊃ (e ⇒ o) ⊃ (e ⇒ s) ⊃ (e ⇒ a) ⊃ (Bool·beq p′ (p && not g)) ⊃ (g ⇒ b) ⊃ (h ⇒ not b) ⊃ (h ⇒ p′)
-        ⊃ so
-        ((e && h ⇒ (((s && not o′) || f) && a) && (((t && not p′) || h) && not b))
-        && ((((s && not o) || e) && a) && (((t && not p) || g) && not b) ⇒ (((s && not o′) || f) && a) && (((t && not p′) || h) && not b))
-        && not ((e && h) && ((((s && not o) || e) && a) && (((t && not p) || g) && not b)))))
-        tt
-        (L i) (free i) (free′ i) (eqb i u) (eqb i x) (d i) (L j) (free j) (free′ j) (eqb j u) (eqb j x) (d j)
-        (closed-at i) (at-bone free u i isfree) (at-bone L u i inside) (at-bone d u i du) (closed-at j) (at-bone d u j du) (at-bone (other d) x j dx) (at-bone free′ x j xfree)))
-
-  still-free : (x : ℕ) → T (free′ x) → T (free x)
-  still-free x t = taut 3 (λ o o′ e. (Bool·beq o′ (o && not e)) ⊃ o′ ⊃ so o) tt (free x) (free′ x) (eqb x u) (closed-at x) t
+      join : (a e : Bool) (y : ℕ) → T (e ⇒ not a) → cond (a || e) y 0 ≡ cond a y 0 + cond e y 0
+      join true true y t = absurd t
+      join true false y t = omega arith
+      join false e y t = omega arith
 
   -- the bound goes on: u, one with the greatest tally, is the bone taken last
   pub bounded-taken : (v : ℕ) → Bounded w L free v → Greatest w L free u → Bounded w L free′ u
   bounded-taken v bounded greatest d x xlow xfree du dx =
       ⊎-elim
-      (λ dv. omega (arith, tie-taken x, bounded d x xlow (still-free x xfree) dv dx, more-here d x xlow xfree du dx))
-      (λ dv. omega (arith, tie-taken x, greatest x xlow (still-free x xfree), bounded (other d) u low isfree dv (taut 1 (λ a. a ⊃ so (not (not a))) tt (d u) du), weight-other 128 w symmetric (λ b. taken L free b || eqb b u) d, more-there d x xlow xfree du dx))
+      (λ dv. omega (
+        arith,
+        tie-taken x,
+        bounded d x xlow still dv dx,
+        more (λ b. taken L free b || eqb b x) (λ b. taut 3 (λ a e f. so (a || f ⇒ (a || e) || f)) tt (taken L free b) (eqb b u) (eqb b x))
+            (taut 3 (λ a e r. (not a) ⊃ (not e) ⊃ so (not ((a || e) && r))) tt (taken L free u) (eqb u x) (taken L free x || eqb x x) (free-not u isfree) (ne→neqb u x (λ e. neqb→ne x u off (sym e)))),
+      ))
+      (λ dv. omega (
+        arith,
+        tie-taken x,
+        greatest x xlow still,
+        bounded (other d) u low isfree dv (taut 1 (λ a. a ⊃ so (not (not a))) tt (d u) du),
+        weight-other 128 w symmetric (λ b. taken L free b || eqb b u) d,
+        more (λ b. taken L free b || eqb b u) (λ b. taut 2 (λ a f. so (a ⇒ a || f)) tt (taken L free b || eqb b u) (eqb b x))
+            (taut 3 (λ a e r. (not a) ⊃ (not e) ⊃ so (not (r && (a || e)))) tt (taken L free x) (eqb x u) (taken L free u || eqb u u) (free-not x still) off),
+      ))
       (decide (d v))
+    where
+      still : T (free x)
+      still = left-of (free x) (not (eqb x u)) (rw (closed x) at xfree)
 
-taken-inside : (L free : Bones) (u b : ℕ) → T (L u) → T (taken L free b || eqb b u) → T (L b)
-unfolding taken
-taken-inside L free u b inside t = taut 3 (λ s o e. (e ⇒ s) ⊃ ((s && not o) || e) ⊃ so s) tt (L b) (free b) (eqb b u) (at-bone L u b inside) t
+      off : T (not (eqb x u))
+      off = right-of (free x) (not (eqb x u)) (rw (closed x) at xfree)
+
+      more : (X : Bones) → ((b : ℕ) → T (X b ⇒ (taken L free b || eqb b u) || eqb b x)) → T (not (X u && X x)) → w u x + weight 128 w X d ≤ weight 128 w (λ b. taken L free′ b || eqb b x) d
+      more X within apart =
+          rw one-more (pair-more w X (λ b. (taken L free b || eqb b u) || eqb b x) d u x low xlow within
+          (or-left (taken L free u || eqb u u) (eqb u x) (or-right (taken L free u) (eqb u u) (eqb-refl u))) (or-right (taken L free x || eqb x u) (eqb x x) (eqb-refl x)) apart du dx)
 
 module _ (w : Tally) (symmetric : Symmetric w) (L free : Bones) (within : (b : ℕ) → T (free b) → T (L b)) where
   -- nothing taken, nothing to bound
@@ -159,41 +153,26 @@ module _ (w : Tally) (symmetric : Symmetric w) (L free : Bones) (within : (b : �
 
   -- a light split does not part a bone of tally k or more from the bone taken last
   pub light-ties : (k u v : ℕ) → Bounded w L free v → u < 128 → T (free u) → k ≤ tie w (taken L free) u → Tied w k L v u
-  unfolding Tied
+  unfolding Tied taken
   light-ties k u v bounded low isfree heavy d light =
-      same-test (d v) (d u)
-      (λ dv. ⊎-elim (λ du. du) (λ du. absurd (parted d dv du light)) (decide (d u)))
-      (λ du. ⊎-elim (λ dv. dv)
-      (λ dv. absurd (parted (other d) dv (taut 1 (λ a. a ⊃ so (not (not a))) tt (d u) du) (omega (arith, light, weight-other 128 w symmetric L d))))
-      (decide (d v)))
+      same-test (d v) (d u) (along d light)
+      (λ du. ⊎-elim (λ dv. dv) (λ dv. absurd (T-not (d u) (along (other d) (omega (arith, weight-other 128 w symmetric L d)) dv) du)) (decide (d v)))
     where
       inside : (b : ℕ) → b < 128 → T (taken L free b || eqb b u) → T (L b)
-      inside b h t = taken-inside L free u b (within u isfree) t
+      inside b h t = taut 3 (λ s o e. (e ⇒ s) ⊃ ((s && not o) || e) ⊃ so s) tt (L b) (free b) (eqb b u) (at-bone L u b (within u isfree)) t
 
-      parted : (e : Bones) → T (e v) → T (not (e u)) → weight 128 w L e < k → ⊥
-      parted e ev eu l = omega (arith, heavy, l, bounded e u low isfree ev eu, weight-within 128 w (λ b. taken L free b || eqb b u) L e inside)
-
-  as-total : sum 128 (λ i. sum 128 (λ b. cond (taken L free i && free b) (w i b) 0)) ≡ weight 128 w L free
-  unfolding total taken weight
-  as-total =
-      total-turn 128 w symmetric (λ i b. taken L free i && free b)
-      ∙ total-ext 128 w (λ i j. taken L free j && free i) (λ i j. (L i && free i) && (L j && not (free j)))
-      (λ i j hi hj. same-test _ _
-      (taut 4 (λ s o t p. (o ⇒ s) ⊃ ((t && not p) && o) ⊃ so ((s && o) && (t && not p))) tt (L i) (free i) (L j) (free j) (imp (free i) (L i) (within i)))
-      (taut 4 (λ s o t p. ((s && o) && (t && not p)) ⊃ so ((t && not p) && o)) tt (L i) (free i) (L j) (free j)))
+      along : (e : Bones) → weight 128 w L e < k → T (e v) → T (e u)
+      along e l ev =
+          ⊎-elim (λ eu. eu)
+          (λ eu. absurd (omega (arith, bounded e u low isfree ev eu, weight-within 128 w (λ b. taken L free b || eqb b u) L e inside)))
+          (decide (e u))
 
   -- the tallies of the free bones to those taken, added up, are what the free bones weigh against them
   pub out-weight : sum 128 (λ b. cond (free b) (tie w (taken L free) b) 0) ≡ weight 128 w L free
-  unfolding tie
+  unfolding tie taken total weight
   out-weight =
-      sum-ext 128 _ (λ b. sum 128 (λ i. cond (taken L free i && free b) (w i b) 0)) (λ b h. under (free b) b)
-      ∙ sum-swap 128 128 (λ b i. cond (taken L free i && free b) (w i b) 0)
-      ∙ as-total
-    where
-      flip : (a b : Bool) (x : ℕ) → cond b (cond a x 0) 0 ≡ cond (a && b) x 0
-      flip true b x = refl
-      flip false true x = refl
-      flip false false x = refl
-
-      under : (t : Bool) (b : ℕ) → cond t (sum 128 (λ i. cond (taken L free i) (w i b) 0)) 0 ≡ sum 128 (λ i. cond (taken L free i && t) (w i b) 0)
-      under t b = sym (cond-out 128 t (λ i. cond (taken L free i) (w i b) 0)) ∙ sum-ext 128 _ _ (λ i h. flip (taken L free i) t (w i b))
+      sum-ext 128 _ (λ b. sum 128 (λ i. cond (free b && taken L free i) (w b i) 0))
+      (λ b h. sym (cond-out 128 (free b) (λ i. cond (taken L free i) (w i b) 0))
+      ∙ sum-ext 128 _ _ (λ i l. sym (cond-and (free b) (taken L free i) (w i b)) ∙ (rw (symmetric i b))))
+      ∙ total-ext 128 w (λ i j. free i && taken L free j) (λ i j. (L i && free i) && taken L free j)
+      (λ i j hi hj. ap (λ (t : Bool). t && taken L free j) (same-test (free i) (L i && free i) (λ t. both (L i) (free i) (within i t) t) (right-of (L i) (free i))))

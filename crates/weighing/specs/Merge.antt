@@ -1,6 +1,6 @@
 -- Blocks contracted in the pair table, and taken back out. The bones of a pile stand in a list; those in its first places lead a block, and
 -- each of the others was merged into one that stands before it.
-use Prim.Native.Nat.{ℕ, _+_, _%_, _^_, _≤_, _<_}
+use Prim.Native.Nat.{ℕ, _+_, _-_, _%_, _^_, _≤_, _<_}
 use mathlib.Core.Path.{_≡_}
 use mathlib.Core.Bool.{Bool, not, _&&_, _||_}
 use mathlib.Core.List.{List}
@@ -18,14 +18,22 @@ touched a R i j = (eqb i a && (R j && not (eqb j a))) || (eqb j a && (R i && not
 unfoldable pub NoSpot : ℕ → Type 0
 NoSpot y = (i j : ℕ) → i < 128 → j < 128 → spot i j ≡ y → ⊥
 
--- the tallies of b with the bones of R go to those of a, the carry of 32 bits thrown away; every other place of the table is as it was
-pub record RowAdded (t t′ : List ℕ) (a b : ℕ) (R : Bones) : Type 0 where
+-- the tallies of a with the bones of R are added to, by what `f` makes of those of b, the carry of 32 bits thrown away; Fits says which of the two fit in 32
+-- bits; every other place of the table is as it was
+pub record Row (f : ℕ → ℕ) (Fits : ℕ → ℕ → Type 0) (t t′ : List ℕ) (a b : ℕ) (R : Bones) : Type 0 where
   pub long : length t ≡ 16384
   pub long′ : length t′ ≡ 16384
-  pub fits : (c : ℕ) → c < 128 → T (R c) → (c ≡ a → ⊥) → held t a c < 2 ^ 32
-  pub hit : (c : ℕ) → c < 128 → T (R c) → (c ≡ a → ⊥) → held t′ a c ≡ (held t a c + held t b c) % 2 ^ 32
+  pub fits : (c : ℕ) → c < 128 → T (R c) → (c ≡ a → ⊥) → Fits (held t a c) (held t b c)
+  pub hit : (c : ℕ) → c < 128 → T (R c) → (c ≡ a → ⊥) → held t′ a c ≡ (held t a c + f (held t b c)) % 2 ^ 32
   pub miss : (i j : ℕ) → i < 128 → j < 128 → T (not (touched a R i j)) → held t′ i j ≡ held t i j
   pub elsewhere : (y : ℕ) → NoSpot y → getD t′ y 0 ≡ getD t y 0
+
+-- the tallies of b go to those of a, and are taken out of them again
+abbrev pub RowAdded : List ℕ → List ℕ → ℕ → ℕ → Bones → Type 0
+RowAdded = Row (λ y. y) (λ x y. x < 2 ^ 32)
+
+abbrev pub RowTaken : List ℕ → List ℕ → ℕ → ℕ → Bones → Type 0
+RowTaken = Row (λ y. 2 ^ 32 - y) (λ x y. y < 2 ^ 32)
 
 -- the bones in the places from hi − 1 down to lo were merged in this order, each into its head: t was the table before, and the last one is it now.
 -- Where a bone was merged, start says before which place the bones stand that are of other blocks.

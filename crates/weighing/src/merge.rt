@@ -5,23 +5,10 @@ use pairs::table::raise_between;
 use pairs::table::tally_of;
 ghost use mathlib.Core.Path.{_≡_};
 ghost use mathlib.Core.List.{List};
-ghost use Prim.Native.Nat.{ℕ, _<_, _≤_, _^_};
+ghost use Prim.Native.Nat.{ℕ, _<_, _≤_};
 ghost use lib.ListN.{length};
-ghost use Rattle.pairs.specs.Table.{held, raised, lowered};
 ghost use Rattle.weighing.specs.Lists.{listed, Once};
-ghost use Rattle.weighing.specs.Merge.{RowAdded, Merges, Folded};
-
-// The tally of b with c goes to that of a with c.
-fn add_pair(table: &mut [u32; 16384], a: usize, b: usize, c: usize)
-    requires { ⌜ (a < 128) × (b < 128) × (c < 128) ⌝ }
-    ensures same { λ _. ⌜ (c ≡ a → now (table .exit) ≡ now (table .entry)) ⌝ }
-    ensures more { λ _. ⌜ ((c ≡ a → ⊥) → (now (table .exit) ≡ raised (now (table .entry)) a c (held (now (table .entry)) b c)) × (held (now (table .entry)) a c < 2 ^ 32)) ⌝ }
-{
-    if c != a {
-        let by = tally_of(table, b, c);
-        raise_between(table, a, c, by);
-    }
-}
+ghost use Rattle.weighing.specs.Merge.{RowAdded, RowTaken, Merges, Folded};
 
 // The tallies of b with the bones in the first m places, but for a, go to those of a.
 fn add_row(table: &mut [u32; 16384], list: &[u8; 128], m: usize, a: usize, b: usize)
@@ -29,7 +16,11 @@ fn add_row(table: &mut [u32; 16384], list: &[u8; 128], m: usize, a: usize, b: us
     ensures { λ _. ⌜ RowAdded (now (table .entry)) (now (table .exit)) a b (listed (now (list .entry)) m) ⌝ }
 {
     for i in 0..m {
-        add_pair(table, a, b, bone(list[i]));
+        let c = bone(list[i]);
+        if c != a {
+            let by = tally_of(table, b, c);
+            raise_between(table, a, c, by);
+        }
     }
 }
 
@@ -52,25 +43,17 @@ pub(crate) fn merge(
     }
 }
 
-// The tally of b with c is taken out of that of a with c.
-fn take_pair(table: &mut [u32; 16384], a: usize, b: usize, c: usize)
-    requires { ⌜ (a < 128) × (b < 128) × (c < 128) ⌝ }
-    ensures same { λ _. ⌜ (c ≡ a → now (table .exit) ≡ now (table .entry)) ⌝ }
-    ensures less { λ _. ⌜ ((c ≡ a → ⊥) → (now (table .exit) ≡ lowered (now (table .entry)) a c (held (now (table .entry)) b c)) × (held (now (table .entry)) b c < 2 ^ 32)) ⌝ }
-{
-    if c != a {
-        let by = tally_of(table, b, c);
-        lower_between(table, a, c, by);
-    }
-}
-
 // The tallies of b with the bones in the first m places, but for a, are taken out of those of a again.
 fn take_row(table: &mut [u32; 16384], list: &[u8; 128], m: usize, a: usize, b: usize)
     requires { ⌜ (length (now table) ≡ 16384) × (a < 128) × (b < 128) × (a ≡ b → ⊥) × Once (now list) m ⌝ }
-    ensures { λ _. ⌜ (length (now (table .exit)) ≡ 16384) × ((t : List ℕ) → RowAdded t (now (table .entry)) a b (listed (now (list .entry)) m) → now (table .exit) ≡ t) ⌝ }
+    ensures { λ _. ⌜ RowTaken (now (table .entry)) (now (table .exit)) a b (listed (now (list .entry)) m) ⌝ }
 {
     for i in 0..m {
-        take_pair(table, a, b, bone(list[i]));
+        let c = bone(list[i]);
+        if c != a {
+            let by = tally_of(table, b, c);
+            lower_between(table, a, c, by);
+        }
     }
 }
 

@@ -1,7 +1,7 @@
 -- `weighing::list::count_heads` meets its contract: after i turns the first i places that bear no mark are counted.
 -- Assumes nothing.
-use Prim.Native.Nat.{ℕ, _+_, _-_, _≤_}
-use mathlib.Core.Path.{_≡_, ap, _∙_}
+use Prim.Native.Nat.{_+_, _-_, _≤_}
+use mathlib.Core.Path.{_≡_}
 use mathlib.Core.Logic.{⊎-elim}
 use native.Mathlib.Omega.{arith}
 use Rattle.meaning.proofs.Tests.{eq→eqb, ne→neqb}
@@ -17,9 +17,6 @@ Inv-loop joins count heads₀ i₀ i-end heads i = (i ≤ count - 1) × (heads �
 abbrev μ-loop : tie.MeasureT-loop
 μ-loop joins count heads₀ i₀ i-end heads i = count - i
 
-loop-holds : tie.Need-loop-holds Inv-loop μ-loop
-loop-holds c = (omega arith, omega (arith, unmarked-none (c .args .joins .now)), omega arith)
-
 loop-again : tie.Need-loop-again Inv-loop μ-loop
 unfolding marked
 loop-again c =
@@ -34,7 +31,7 @@ returns : tie.Need-returns Inv-loop μ-loop
 returns c =
     let l = c .before .loop in
     let all : l .i ≡ c .before .before .args .count - 1 = omega arith in
-    l .inv .1 ∙ ap (λ (z : ℕ). unmarked (c .before .before .args .joins .now) z + 1) all
+    rw all at (l .inv .1)
 
 pub count-heads-spec : {M : Type 1} → statement M
 count-heads-spec =
@@ -43,7 +40,7 @@ count-heads-spec =
     Inv-loop
     μ-loop
     (λ c. omega arith)
-    loop-holds
+    (λ c. (omega arith, omega (arith, unmarked-none (c .args .joins .now)), omega arith))
     (λ c. omega arith)
     (λ c. omega arith)
     (λ c. omega arith)

@@ -21,12 +21,6 @@ loop-holds c =
     let s = c .before in
     laying-start (s .pre .0 .1) (s .args .list .now) (s .args .into .now) (s .args .start .now) (s .pre .0 .0) (s .pre .0 .2) (s .pre .1 .0) (s .pre .1 .1) (s .pre .1 .2)
 
-element-copy-out-u : tie.Need-element-copy-out-u Inv-loop μ-loop
-element-copy-out-u c = omega (arith, c .before .loop .inv .last, c .before .before .before .pre .0 .1 .few)
-
-element-copy-out-if1 : tie.Need-element-copy-out-if1 Inv-loop μ-loop
-element-copy-out-if1 c = omega (arith, c .before .before .loop .inv .last, c .before .before .before .before .pre .0 .1 .few)
-
 -- where a bone is tied, there is room behind
 room : (c : lts.Then1 reads.Pre reads.Post Inv-loop μ-loop) → c .before .before .before .before .loop .back < 128
 unfolding marked
@@ -35,26 +29,13 @@ room c =
     let l = c .before .before .before .before .loop in
     omega (arith, s .pre .0 .1 .few, tied-room (s .pre .0 .1) (omega arith) (l .inv) (eq→eqb _ 1 (c .if1 .taken)))
 
-cast-start : tie.Need-cast-start Inv-loop μ-loop
-cast-start c = omega (arith, room c, c .before .before .before .before .loop .inv .before)
-
 loop-again : tie.Need-loop-again Inv-loop μ-loop
 unfolding marked
 loop-again c = laying-tied (c .before .before .before .before .before .before .pre .0 .1) (omega arith) (c .before .before .before .before .loop .inv) (eq→eqb _ 1 (c .if1 .taken))
 
--- where a bone leads, there is room in front
-room-2 : (c : lts.Else1 reads.Pre reads.Post Inv-loop μ-loop) → c .before .before .before .before .loop .front < 128
-room-2 c =
-    let s = c .before .before .before .before .before .before in
-    let l = c .before .before .before .before .loop in
-    omega (arith, s .pre .0 .1 .few, l .inv .so-far, l .inv .after, l .inv .before)
-
 loop-again-2 : tie.Need-loop-again-2 Inv-loop μ-loop
 unfolding marked
 loop-again-2 c = laying-head (c .before .before .before .before .before .before .pre .0 .1) (omega arith) (c .before .before .before .before .loop .inv) (ne→neqb _ 1 (c .if1 .left))
-
-returns : tie.Need-returns Inv-loop μ-loop
-returns c = laying-end (c .before .before .before .pre .0 .1) (c .before .before .before .args .list .now) _ (omega arith) (c .before .loop .inv)
 
 pub lay-spec : {M : Type 1} → statement M
 lay-spec =
@@ -63,22 +44,22 @@ lay-spec =
     Inv-loop
     μ-loop
     (λ c. omega arith)
-    (λ c. omega (arith, c .pre .0 .1 .few))
+    (λ c. omega arith)
     (λ c. omega arith)
     (λ c. omega arith)
     loop-holds
     (λ c. omega arith)
-    element-copy-out-u
-    element-copy-out-if1
+    (λ c. omega arith)
+    (λ c. omega arith)
     (λ c. room c)
     (λ c. room c)
-    cast-start
+    (λ c. omega (arith, room c))
     (λ c. room c)
     (λ c. omega (arith, room c))
     (λ c. omega arith)
     loop-again
-    (λ c. room-2 c)
-    (λ c. omega (arith, room-2 c))
+    (λ c. omega arith)
+    (λ c. omega arith)
     (λ c. omega arith)
     loop-again-2
-    returns)
+    (λ c. laying-end (c .before .before .before .pre .0 .1) (c .before .before .before .args .list .now) _ (omega arith) (c .before .loop .inv)))

@@ -1,44 +1,40 @@
--- `weighing::merge::take_row` meets its contract: after i turns it is done for the bones in the first i places; what is taken out is then what was added.
+-- `weighing::merge::take_row` meets its contract: after i turns it is done for the bones in the first i places.
 -- Assumes nothing.
 use Prim.Native.Nat.{_≤_, _-_, zero-le}
-use mathlib.Core.Path.{_≡_}
+use mathlib.Core.Path.{_≡_, _∙_}
+use mathlib.Core.Logic.{⊎-elim}
 use native.Mathlib.Omega.{arith}
 use borrow.Author.Needs.{needs}
+use Rattle.pairs.specs.Table.{lowered}
 use Rattle.weighing.specs.Lists.{listed}
-use Rattle.weighing.proofs.Listing.{none-listed}
-use Rattle.weighing.proofs.Rows.{Taking, row-start, row-turn, pair-taken, row-back}
+use Rattle.weighing.specs.Merge.{RowTaken}
+use Rattle.weighing.proofs.Rows.{row-start, put, skip, row-turn}
 use Rattle.weighing.proofs.merge.take_row.Statement.{statement}
 use Rattle.weighing.proofs.merge.take_row.Tie as tie
 
 abbrev Inv-loop : tie.InvT-loop
-Inv-loop table₀ list m a b i₀ table i = (i ≤ m) × Taking table₀ table a b (listed list i)
+Inv-loop table₀ list m a b i₀ table i = (i ≤ m) × RowTaken table₀ table a b (listed list i)
 
 abbrev μ-loop : tie.MeasureT-loop
 μ-loop table₀ list m a b i₀ table i = m - i
 
-take-pair-requires : tie.Need-take-pair-requires Inv-loop μ-loop
-take-pair-requires c κs =
-    let at = c .before .before .before .before in
-    omega (arith, at .before .pre .4 .low (at .loop .i) (omega arith))
-
 loop-again : tie.Need-loop-again Inv-loop μ-loop
+unfolding lowered
 loop-again c =
-    let at = c .before .before .before .before .before in
-    let pre = at .before .pre in
-    let row = at .loop .inv .1 in
-    let read = c .before .bone .ensures .0 in (
+    let at = c .before .before .before .before in
+    let pre = at .before .pre in (
       omega arith,
-      row-turn (pre .4) (omega arith) (pre .1) (pre .2) (pre .3) row
-          (rw read at (c .take-pair .ensures .0))
-          (λ n. pair-taken _ _ _ _ (row .long′) (pre .1) (pre .4 .low _ (omega arith)) ((rw read at (c .take-pair .ensures .1)) n)),
+      row-turn (pre .4) (omega arith) (pre .1) (pre .2) (pre .3) (at .loop .inv .1) (c .before .bone .ensures .0)
+          (⊎-elim
+          (λ v. put _ (v .0 .taken) (v .2 .ensures .0) (v .2 .ensures .1) (v .5 ∙ v .4 .ensures))
+          (λ v. skip (v .0 .left) (v .1))
+          (c .if1 .came)),
     )
 
 returns : tie.Need-returns Inv-loop μ-loop
 returns c =
-    let at = c .before in
-    let all : at .loop .i ≡ at .before .args .m = omega arith in
-    let row = rw all at (at .loop .inv .1) in
-    (row .long′, λ t put. row-back (at .before .pre .2) (at .before .pre .3) put row)
+    let all : c .before .loop .i ≡ c .before .before .args .m = omega arith in
+    rw all at (c .before .loop .inv .1)
 
 pub take-row-spec : {M : Type 1} → statement M
 take-row-spec =
@@ -46,10 +42,11 @@ take-row-spec =
     (tie.spec
     Inv-loop
     μ-loop
-    (λ c. (zero-le, row-start _ _ _ _ (c .pre .0) (none-listed _)))
+    (λ c. (zero-le, row-start _ _ _ _ (c .pre .0)))
     (λ c. omega arith)
     (λ c κs. search needs)
-    take-pair-requires
+    (λ c κs. search needs)
+    (λ c κs. search needs)
     (λ c. omega arith)
     (λ c. omega arith)
     loop-again

@@ -9,6 +9,7 @@ use lib.ListN.{length}
 use borrow.Author.Needs.{needs}
 use Rattle.weighing.specs.Merge.{Merges}
 use Rattle.weighing.proofs.Merged.{fold-place, merges-back, merges-none}
+use Rattle.weighing.proofs.Rows.{row-back}
 use Rattle.weighing.proofs.merge.undo.Statement.{statement}
 use Rattle.weighing.proofs.merge.undo.Tie as tie
 
@@ -33,10 +34,12 @@ take-row-requires c κs =
 loop-again : tie.Need-loop-again Inv-loop μ-loop
 loop-again c =
     let at = c .before .before .before .before .before .before .before .before .before in
-    let was =
+    let pre = at .before .pre in
+    let place = fold-place (at .loop .j) (pre .2) (pre .3) (omega arith) (omega arith) in
+    let row =
     rw
     (c .before .before .before .before .before .bone .ensures .0, c .before .before .before .bone2 .ensures .0, c .before .bone3 .ensures .0) at (c .take-row .ensures) in
-    (omega arith, omega arith, was .0, λ t m. merges-back (at .loop .inv .3 t m) (omega arith) (was .1))
+    (omega arith, omega arith, row .long′, λ t m. merges-back (at .loop .inv .3 t m) (omega arith) (λ t′ put. row-back (place .1) (place .2) put row))
 
 pub undo-spec : {M : Type 1} → statement M
 undo-spec =

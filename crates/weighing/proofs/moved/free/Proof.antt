@@ -1,7 +1,7 @@
 -- `weighing::moved::free` meets its contract: after i turns the bones in the first i places bear a mark.
 -- Assumes nothing.
 use Prim.Native.Nat.{ℕ, zero-le, _-_, _≤_}
-use mathlib.Core.Path.{_≡_, refl, _∙_, ap}
+use mathlib.Core.Path.{_≡_, refl, _∙_}
 use native.Mathlib.Omega.{arith}
 use borrow.Author.Needs.{needs}
 use lib.ListN.{length, length-set}
@@ -28,7 +28,7 @@ returns : tie.Need-returns Inv-loop μ-loop
 returns c =
     let l = c .before .loop in
     let done : l .i ≡ c .before .before .args .left = omega arith in
-    (l .inv .1, λ b. l .inv .2 b ∙ ap (λ (k : ℕ). listed (c .before .before .args .order .now) k b) done)
+    (l .inv .1, rw done at (l .inv .2))
 
 pub free-spec : {M : Type 1} → statement M
 free-spec =
@@ -37,7 +37,7 @@ free-spec =
     Inv-loop
     μ-loop
     (λ c. (zero-le, refl, free-start (c .args .order .now) 128))
-    (λ c. omega (arith, c .before .before .pre .few))
+    (λ c. omega arith)
     (λ c κs. search needs)
     array-write-marks
     (λ c. omega arith)

@@ -1,6 +1,5 @@
 -- `weighing::moved::moves_out` meets its contract: by whether the bone is of the pile. Assumes nothing.
-use mathlib.Core.Path.{sym, _∙_, ap}
-use mathlib.Core.Bool.{Bool, not, _&&_, Bool·beq}
+use mathlib.Core.Path.{sym, _∙_}
 use borrow.Author.Tests.{eq-eqb, ne-eqb}
 use Rattle.pairs.specs.Side.{heapOf}
 use Rattle.weighing.specs.Lists.{marked}
@@ -12,14 +11,14 @@ returns : tie.Need-returns
 unfolding heapOf
 returns c =
     let a = c .before .before .before .args in
-    sym (ap (λ (t : Bool). t && not (Bool·beq (marked (a .marks .now) (a .b)) (marked (a .marks .now) (a .p)))) (ne-eqb (heapOf (a .names .now) (a .b)) (a .p) (λ e. c .if1 .taken (c .before .bone .ensures .0 ∙ e))))
+    rw (ne-eqb (heapOf (a .names .now) (a .b)) (a .p) (λ e. c .if1 .taken (c .before .bone .ensures .0 ∙ e)))
 
 returns-2 : tie.Need-returns-2
 unfolding heapOf marked
 returns-2 c =
     let e = c .before .before in
     let a = e .before .before .before .args in
-    sym (ap (λ (t : Bool). t && not (Bool·beq (marked (a .marks .now) (a .b)) (marked (a .marks .now) (a .p)))) (eq-eqb (heapOf (a .names .now) (a .b)) (a .p) (sym (e .before .bone .ensures .0) ∙ e .if1 .left)))
+    rw (eq-eqb (heapOf (a .names .now) (a .b)) (a .p) (sym (e .before .bone .ensures .0) ∙ e .if1 .left))
 
 pub moves-out-spec : {M : Type 1} → statement M
 moves-out-spec =

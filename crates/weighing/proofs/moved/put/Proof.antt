@@ -1,13 +1,10 @@
 -- `weighing::moved::put` meets its contract: the bit was nought, so the byte has room for it.
 -- Assumes nothing.
-use Prim.Native.Nat.{ℕ, _+_, _*_, _/_, _%_, _^_}
-use mathlib.Core.Path.{_≡_, sym, _∙_, subst}
-use mathlib.Core.Bool.{_||_}
+use Prim.Native.Nat.{_+_, _*_, _/_, _%_, _^_}
+use mathlib.Core.Path.{_≡_, _∙_}
 use native.Mathlib.Omega.{arith}
 use borrow.Author.Needs.{needs}
-use lib.Dec.{eqb}
-use lib.ListN.{length, getD, set, length-set}
-use Rattle.pairs.specs.Side.{sideOf}
+use lib.ListN.{getD, length-set}
 use Rattle.weighing.proofs.SideBits.{off-bit, bit-room, pow-small, power, put-side}
 use Rattle.weighing.proofs.moved.put.Statement.{statement}
 use Rattle.weighing.proofs.moved.put.Tie as tie
@@ -26,8 +23,7 @@ returns c =
     let s = c .before .before in
     let a = s .args in
     let e : c .bone .result + 1 * 2 ^ (a .b % 8) % 2 ^ 64 ≡ getD (a .side .now) (a .b / 8) 0 + 2 ^ (a .b % 8) = omega (arith, c .bone .ensures .0, power (a .b % 8) (omega arith)) in
-    subst (λ (v : ℕ). (length (set (a .side .now) (a .b / 8) v) ≡ 16) × ((x : ℕ) → sideOf (set (a .side .now) (a .b / 8) v) x ≡ (sideOf (a .side .now) x || eqb x (a .b)))) (sym e)
-    (length-set (a .side .now) (a .b / 8) _ ∙ s .pre .1, put-side (a .side .now) (a .b) (s .pre .0) (s .pre .1) (s .pre .2))
+    rw e (length-set (a .side .now) (a .b / 8) _ ∙ s .pre .1, put-side (a .side .now) (a .b) (s .pre .0) (s .pre .1) (s .pre .2))
 
 pub put-spec : {M : Type 1} → statement M
 put-spec =

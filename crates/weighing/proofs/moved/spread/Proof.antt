@@ -1,10 +1,8 @@
 -- `weighing::moved::spread` meets its contract: before the turn at j the marks are as it says of the bones before place j.
 -- Assumes nothing.
-use Prim.Native.Nat.{ℕ, _-_, _≤_}
-use mathlib.Core.Path.{ap}
+use Prim.Native.Nat.{_-_, _≤_}
 use native.Mathlib.Omega.{arith}
 use borrow.Author.Needs.{needs}
-use lib.ListN.{getD}
 use Rattle.weighing.specs.Moved.{Spread}
 use Rattle.weighing.proofs.Listing.{listed-low, once-less}
 use Rattle.weighing.proofs.Spreading.{spread-next}
@@ -16,13 +14,6 @@ Inv-loop order left list into count size marks₀ j₀ marks j = (count ≤ j) �
 
 abbrev μ-loop : tie.MeasureT-loop
 μ-loop order left list into count size marks₀ j₀ marks j = size - j
-
-loop-holds : tie.Need-loop-holds Inv-loop μ-loop
-loop-holds c =
-    (omega arith, omega (arith, c .before .pre .0 .2), record { long = c .free .ensures .0; led = λ b t. c .free .ensures .1 b; same = λ j l h. absurd (omega arith) })
-
-element-copy-out-bone-2 : tie.Need-element-copy-out-bone-2 Inv-loop μ-loop
-element-copy-out-bone-2 c = omega (arith, c .before .before .before .before .before .pre .0 .1 .few)
 
 array-read-marks : tie.Need-array-read-marks Inv-loop μ-loop
 array-read-marks c =
@@ -41,7 +32,7 @@ loop-again c =
       omega arith,
       omega arith,
       spread-next (l .j) _ _ (s .pre .0 .1) (s .pre .1) (l .inv .0) (c .before .before .before .before .loop-test .taken) (c .before .before .bone .ensures .0)
-          (ap (λ (x : ℕ). getD (l .marks) x 0) (c .bone2 .ensures .0)) (l .inv .2),
+          (rw (c .bone2 .ensures .0)) (l .inv .2),
     )
 
 returns : tie.Need-returns Inv-loop μ-loop
@@ -56,10 +47,10 @@ spread-spec =
     Inv-loop
     μ-loop
     (λ c κs. search needs)
-    loop-holds
-    (λ c. omega (arith, c .before .before .before .pre .0 .1 .few))
+    (λ c. (omega arith, omega arith, record { long = c .free .ensures .0; led = λ b t. c .free .ensures .1 b; same = λ j l h. absurd (omega arith) }))
+    (λ c. omega arith)
     (λ c κs. search needs)
-    element-copy-out-bone-2
+    (λ c. omega arith)
     (λ c κs. search needs)
     array-read-marks
     array-write-marks

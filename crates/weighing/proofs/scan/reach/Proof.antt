@@ -1,8 +1,9 @@
 -- `weighing::scan::reach` meets its contract: after i turns the bones in the first i places are reached.
 -- Assumes nothing.
-use Prim.Native.Nat.{ℕ, zero-le, _-_, _≤_, _<_}
-use mathlib.Core.Path.{_≡_, subst}
+use Prim.Native.Nat.{zero-le, _-_, _≤_, _<_}
+use mathlib.Core.Path.{_≡_}
 use native.Mathlib.Omega.{arith}
+use borrow.Author.Needs.{needs}
 use lib.ListN.{getD}
 use Rattle.pairs.specs.Table.{held}
 use Rattle.weighing.specs.Scan.{Reached}
@@ -25,18 +26,18 @@ look-requires c κs =
       (omega (arith, reached-fresh (l .inv .1) (s .pre .1) here, s .pre .3 (getD (s .args .order .now) (l .i) 0)), omega (arith, l .inv .1 .most, s .pre .1 .few)),
     )
 
-loop-again : tie.Need-loop-again Inv-loop μ-loop
-loop-again c =
-    let s = c .before .before .before .before in
-    let l = c .before .before .before .loop in
-    (omega arith, reached-next (l .inv .1) (s .pre .1) (omega arith) (s .pre .3) (c .look .ensures))
-
 returns : tie.Need-returns Inv-loop μ-loop
-returns c =
-    let l = c .before .loop in
-    let a = c .before .before .args in
-    let all : l .i ≡ a .left = omega arith in
-    subst (λ (m : ℕ). Reached (held (a .table .now)) (a .order .now) (a .u) m (a .attach .now) (l .attach) (l .got .place) (l .got .top) (l .got .out)) all (l .inv .1)
+returns c = let all : c .before .loop .i ≡ c .before .before .args .left = omega arith in rw all at (c .before .loop .inv .1)
 
 pub reach-spec : {M : Type 1} → statement M
-reach-spec = tie.close (tie.spec Inv-loop μ-loop (λ c. (zero-le, reached-start _ _ _ _ (c .pre .2))) look-requires (λ c. omega arith) (λ c. omega arith) loop-again returns)
+reach-spec =
+    tie.close
+    (tie.spec
+    Inv-loop
+    μ-loop
+    (λ c. (zero-le, reached-start _ _ _ _ (c .pre .2)))
+    look-requires
+    (λ c. search needs)
+    (λ c. search needs)
+    (λ c. search (needs, reached-next))
+    returns)
