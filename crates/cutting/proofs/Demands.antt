@@ -81,7 +81,7 @@ module _ (n k : ℕ) (good : Bool) (links : List Link) (judged : first (tableRow
         groups-some : 0 < groups n (pairTally links) k
         groups-some = subst (λ (x : ℕ). 0 < x) (run-groups n (pairTally links) k (counted .some-bones) (cutsOf own) (c .lawful) (c .done)) (omega (arith, Rattle.cutting.proofs.Finish.piles-run n (pairTally links) k (counted .some-bones) (cutsOf own) (c .lawful)))
 
-    own-length : length own ≡ entrySize * (groups n (pairTally links) k - 1)
+    pub own-length : length own ≡ entrySize * (groups n (pairTally links) k - 1)
     unfolding own cutsOf
     own-length = omega (arith, own-cuts, length-cuts (length own / entrySize) own, length-take (entrySize * (groups n (pairTally links) k - 1)) space′)
 

@@ -16,8 +16,8 @@ use Rattle.meaning.specs.Heap.{Heap, start, Cut, Lawful, LawfulRun, parted, pil
 use Rattle.meaning.proofs.Tests.{decide, is-true, is-false, same-test, taut, so, _⊃_}
 use Rattle.meaning.proofs.Sums.{count-most}
 use Rattle.meaning.proofs.Sets.{some-elim, every-intro, every-elim, least-in}
-use Rattle.meaning.proofs.Firm.{firm-elim, firm-same, splits-intro}
-use Rattle.meaning.proofs.Heaps.{Named, pile-intro, pile-bone, pile-name, parted-moved, parted-stays, named-start, piles-parted}
+use Rattle.meaning.proofs.Firm.{firm-same}
+use Rattle.meaning.proofs.Heaps.{lawful-not-firm, Named, pile-intro, pile-bone, pile-name, parted-moved, parted-stays, named-start, piles-parted}
 use Rattle.meaning.proofs.Runs.{Reached, reached-start, reached-left, piles-left, piles-start, piles-groups, finished-labels}
 use Rattle.weighing.specs.declared.search.Split.{Split}
 use Rattle.pairs.specs.Table.{held}
@@ -42,13 +42,8 @@ module _ (n : ℕ) (w : Tally) (k : ℕ) (h : Heap) where
     name-bone : c .name < n
     name-bone = pile-bone n h (c .name) (c .name) in-pile
 
-    -- a pile that has a lawful cut is not firm
     pub not-firm : T (firm n w k (pile n h (c .name))) → ⊥
-    not-firm whole =
-        let moved = some-elim n (c .side) (law .moving) in
-        let heavy = firm-elim n w k (pile n h (c .name)) whole (c .side)
-        (splits-intro n (pile n h (c .name)) (c .side) (moved .0) (c .name) (moved .1) name-bone (law .within (moved .0) (moved .2)) (moved .2) in-pile (law .staying)) in
-        omega (arith, heavy, law .true-weight, law .light)
+    not-firm = lawful-not-firm n w k h c law
 
     pub lawful-unfinished : T (not (finished n w k h))
     unfolding finished

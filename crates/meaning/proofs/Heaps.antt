@@ -16,7 +16,7 @@ use Rattle.meaning.proofs.Tests.{both, left-of, right-of, either, decid
 use Rattle.meaning.proofs.Sums.{sum-ext, sum-add, sum-one, sum-zero, count-same, count-most}
 use Rattle.meaning.proofs.Totals.{Pairs, parts, Symmetric, total-parts, total-turn, total-ext, total-pair}
 use Rattle.meaning.proofs.Sets.{Same, some-elim, some-intro, least-in}
-use Rattle.meaning.proofs.Firm.{Within, firm-parts}
+use Rattle.meaning.proofs.Firm.{Within, firm-parts, firm-elim, splits-intro}
 
 -- ---- piles
 
@@ -290,3 +290,12 @@ module _ (n : ℕ) (w : Tally) (k : ℕ) (h : Heap) (c : Cut) (law : Lawful n w 
       total-parts n w _ (λ i j. ltb i j && apart h i j) (λ i j. ltb i j && (crossing i j || crossing j i))
       (λ i j hi hj. taut 4 (λ l e b x. parts e b x ⊃ so (parts (l && e) (l && b) (l && x))) tt (ltb i j) (apart (parted n h c) i j) (apart h i j) (crossing i j || crossing j i) (apart-parted d i j hi hj))
       ∙ ap (λ (m : ℕ). total n w (λ i j. ltb i j && apart h i j) + m) (crossing-once s ∙ sym (law .true-weight))
+
+-- a pile that has a lawful cut is not firm
+pub lawful-not-firm : (n : ℕ) (w : Tally) (k : ℕ) (h : Heap) (c : Cut) → Lawful n w k h c → T (firm n w k (pile n h (c .name))) → ⊥
+unfolding stands
+lawful-not-firm n w k h c law whole =
+    let moved = some-elim n (c .side) (law .moving) in
+    let heavy = firm-elim n w k (pile n h (c .name)) whole (c .side)
+    (splits-intro n (pile n h (c .name)) (c .side) (moved .0) (c .name) (moved .1) (pile-bone n h (c .name) (c .name) (law .standing)) (law .within (moved .0) (moved .2)) (moved .2) (law .standing) (law .staying)) in
+    omega (arith, heavy, law .true-weight, law .light)

@@ -4,3 +4,4 @@ pub mod TableAdds
 pub mod TableHeld
 pub mod TableRaised
 pub mod Sides
+pub mod SideBytes

@@ -1,2 +1,3 @@
 -- The laws behind what the bench times.
-mod Repeats
+pub mod Repeats
+pub mod Unique

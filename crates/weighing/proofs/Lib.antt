@@ -14,3 +14,4 @@ pub mod Ending
 pub mod Finding
 pub mod Noting
 pub mod Lone
+pub mod Unique
