@@ -1,7 +1,9 @@
 // The program: an input text on standard input, what it prints on standard output. Its work is `answering::answer`, from bytes to bytes. Of the input one
-// byte more is read than a text may have, so that a longer one is refused. A read that fails ends the input.
+// byte more is read than a text may have, so that a longer one is refused.
+mod input;
+
 use answering::answer;
-use libc::STDIN_FILENO;
+use input::read_input;
 use libc::STDOUT_FILENO;
 use texts::Written;
 
@@ -9,7 +11,7 @@ use texts::Written;
 fn main() {
     let mut input = [0u8; 65537];
     let mut out = [0u8; 7141];
-    let size = io::read_full(STDIN_FILENO, &mut input);
+    let size = read_input(&mut input);
     match answer(&input[..size], &mut out) {
         Written::Bytes { count } => {
             let end = count as usize;
