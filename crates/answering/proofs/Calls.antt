@@ -36,13 +36,13 @@ use denote.Triple.Entry.{Res, alive}
 use denote.Triple.Statement.{Contract, Triple}
 use denote.Triple.Spec.{tripleOf}
 use denote.Triple.Clauses.{Clauses, Ended, Lasts, atExit, lasts, closing}
+use denote.Triple.Walked.{says}
 use Rattle.lines.specs.declared.Written.{Written}
 use Rattle.lines.proofs.WritesAnswer.{Wn}
 use Rattle.lines.specs.Writing.{Refuses}
-use Rattle.lines.proofs.refusal.write_refused as ref
-use Rattle.lines.proofs.refusal.write_refused.Symbol.{name as #refuse}
+use Rattle.answering.proofs.write_refused as ref
+use Rattle.answering.proofs.write_refused.Symbol.{name as #refuse}
 use Rattle.answering.specs.Steps.{Framed}
-use Rattle.answering.proofs.Fitting.{framed-whole}
 
 module _ {M : Type 1} {𝓤 : URA M} {H : Heap 𝓤} {A : Atoms 𝓤} {K : Type 0} {W : Given 𝓤 H A} {Γ : List (Item 𝓤)} {E : Env 𝓤 H} {C : Calls 𝓤 H} {Λ : Loops 𝓤 H} {f : Name} {xs : List Operand} {q : Post 𝓤 H} {d : Place} where
   pub calls-to-last : K → FmC 𝓤 H (W .laws) C → (T : Ended) (c : Clauses 𝓤 T) → Triple 𝓤 (C f) (tripleOf 𝓤 H A (T .signature) (closing 𝓤 H A T c))
@@ -90,10 +90,10 @@ module _ {M : Type 1} {𝓤 : URA M} {H : Heap 𝓤} {A : Atoms 𝓤} {K : Type 
       → Seq K W (‵ (MutSlice (named 0) κ u8 .own z (slice-vals z)) ∷ ‵ (flft κ q) ∷ Γ) (runs C Λ E (call #refuse xs d) q′)
   calls-refuse tk mem run fm known {κ} {q} number place z gn gp framed os then =
       use2 W (raw (Refuse 𝓤 H A mem run .pre (to-refuse 𝓤 H A mem run κ q number place z)))
-      (qed W (‵ (MutSlice (named 0) κ u8 .own z (slice-vals z)) ∷ ‵ (flft κ q) ∷ []) ∵ nothing ! $ move ! (2 ∷ 0 ∷ []) $ join ! $
-      nothing ! $ move ! (2 ∷ 0 ∷ []) $ fjoin ! $ owned ! u32 (Is u32) (uint-makes 𝓤 H A W w32) place (vint w32 place ∷ []) (refl, gp) $ fjoin ! $
-      owned ! u32 (Is u32) (uint-makes 𝓤 H A W w32) number (vint w32 number ∷ []) (refl, gn) $ fjoin ! $ move ! (1 ∷ 0 ∷ []) $ join ! $ frame ! $ done !) $
-      calls-to-last tk fm ref.ended (ref.clauses 𝓤 H A mem run) known (to-refuse 𝓤 H A mem run κ q number place z) (λ r ws. Refuses (number % 256) (place % 65536) (z .now) (ws .1 .1 .0) r) (λ r ws. id⊢ 𝓤 _) os (λ u r ws e.
+      (qed W (‵ (MutSlice (named 0) κ u8 .own z (slice-vals z)) ∷ ‵ (flft κ q) ∷ []) ∵ says ! framed $ nothing ! $ move ! (2 ∷ 0 ∷ []) $ join ! $ frame ! $
+      nothing ! $ move ! (1 ∷ 0 ∷ []) $ fjoin ! $ owned ! u32 (Is u32) (uint-makes 𝓤 H A W w32) place (vint w32 place ∷ []) (refl, gp) $ fjoin ! $
+      owned ! u32 (Is u32) (uint-makes 𝓤 H A W w32) number (vint w32 number ∷ []) (refl, gn) $ fjoin ! $ done !) $
+      calls-to-last tk fm ref.ended (ref.clauses 𝓤 H A mem run) known (to-refuse 𝓤 H A mem run κ q number place z) (λ r ws. Refuses number place (z .now) (ws .1 .1 .0) r) (λ r ws. id⊢ 𝓤 _) os (λ u r ws e.
       -- [the answer; the token; the last values; ..]
       peeks tk Wn (Is Wn) (shows 𝓤 H A Wn) r (u ∷ []) (λ is. move tk (1 ∷ []) $ use1 W (‵ (flft κ q) ⊛ ‵ ftrue) (id⊢ 𝓤 _) $ split tk $ move tk (1 ∷ []) $ drop tk $
-      move tk (2 ∷ []) $ fsplit tk $ drop tk $ fsplit tk $ drop tk $ fsplit tk $ fsplit tk $ move tk (1 ∷ []) $ feqL tk (λ len. move tk (1 ∷ []) $ drop tk $ then r u (ws .1 .1 .0) is len (framed-whole number place (z .now) (ws .1 .1 .0) r framed e))))
+      move tk (2 ∷ []) $ fsplit tk $ drop tk $ fsplit tk $ drop tk $ fsplit tk $ fsplit tk $ move tk (1 ∷ []) $ feqL tk (λ len. move tk (1 ∷ []) $ drop tk $ then r u (ws .1 .1 .0) is len e)))

@@ -1,7 +1,6 @@
 -- A refusal of the reader or of grouping fits the frame that tells it: its number is below 256, and its place below 65,536.
 --     Fits             what a judgement is, if it refuses
 --     reader-fits, grouping-fits     the first refusal of each
---     framed-whole     the frame of what fits it tells the whole of it
 -- Assumes nothing.
 use Prim.Native.Nat.{ℕ, suc, _+_, _-_, _/_, _%_, _≤_, _<_}
 use mathlib.Core.Path.{_≡_, refl, subst}
@@ -28,8 +27,6 @@ use Rattle.stages.specs.declared.stage.Stage.the-variants.{Opening}
 use Rattle.frames.specs.Frame.{wellFormed, isHex, isKind, bytesOf}
 use Rattle.reading.specs.Lines.{Line, before, linesOf, lineRows}
 use Rattle.reading.specs.Reader.{readerRows}
-use Rattle.lines.specs.declared.Written.{Written}
-use Rattle.lines.specs.Writing.{Refuses}
 use Rattle.answering.specs.Steps.{Framed}
 
 unfoldable pub Fits : Judged → Type 0
@@ -146,11 +143,3 @@ reader-fits text linkRoom recordRoom =
     row-fits _ 9 0 _ (lit< tt, lit< tt) (λ _.
     row-fits _ 14 0 _ (lit< tt, lit< tt) (λ _.
     row-fits _ 8 0 _ (lit< tt, lit< tt) (λ _. none-fits))))))
-
--- ---- the frame
-
-pub framed-whole : (number place : ℕ) (room room′ : List ℕ) (r : Written) → Framed number place → Refuses (number % 256) (place % 65536) room room′ r → Refuses number place room room′ r
-framed-whole number place room room′ r framed e =
-    let n : number % 256 ≡ number = omega (arith, framed .0) in
-    let p : place % 65536 ≡ place = omega (arith, framed .1) in
-    subst (λ (m : ℕ). Refuses m place room room′ r) n (subst (λ (m : ℕ). Refuses (number % 256) m room room′ r) p e)

@@ -8,12 +8,21 @@ use meaning::Link;
 use reading::Reading;
 use reading::reader::read;
 use texts::Written;
-use texts::refusal::write_refused;
+use texts::refusal::write_refusal;
 use texts::result::write_result;
 ghost use lib.ListN.{length};
 ghost use Rattle.meaning.specs.Judge.{first};
+ghost use Rattle.lines.specs.Writing.{Refuses};
 ghost use Rattle.answering.specs.Prints.{groupedRows, Answers, Answering};
-ghost use Rattle.answering.specs.Steps.{Held, AfterReading, Ready, AfterGrouping};
+ghost use Rattle.answering.specs.Steps.{Framed, Held, AfterReading, Ready, AfterGrouping};
+
+// The frame of a refusal, alone. The numbers and places that the reader and grouping refuse with fit it.
+fn write_refused(number: u32, place: u32, out: &mut [u8]) -> Written
+    requires { ⌜ Framed number place ⌝ }
+    ensures { λ r. ⌜ Refuses number place (now (out .entry)) (now (out .exit)) r ⌝ }
+{
+    write_refusal(number as u8, place as u16, out)
+}
 
 // After grouping: its refusal, or the result text of the record that it left.
 fn after_grouping(

@@ -60,9 +60,9 @@ use Rattle.answering.specs.Steps.{Ready, AfterGrouping}
 use Rattle.answering.proofs.AnswerRow.{An, told, told-so, typed-answer, made-answer, refusal-fits, count-fits}
 use Rattle.answering.proofs.Calls.{Refuse, calls-to-last, calls-refuse, matches, lands-then}
 use Rattle.lent.proofs.Locals.{part-of, lends-front}
-use Rattle.lines.proofs.refusal.write_refused.Symbol as ref-def
-use Rattle.lines.proofs.refusal.write_refused.Symbol.{name as #refuse}
-use Rattle.lines.proofs.refusal.write_refused.Met as ref-thm
+use Rattle.answering.proofs.write_refused.Symbol as ref-def
+use Rattle.answering.proofs.write_refused.Symbol.{name as #refuse}
+use Rattle.answering.proofs.write_refused.Met as ref-thm
 use Rattle.cuts.proofs.size.size_of_run as siz
 use Rattle.cuts.proofs.size.size_of_run.Symbol as siz-def
 use Rattle.cuts.proofs.size.size_of_run.Symbol.{name as #size-of-run}
@@ -226,7 +226,7 @@ after-grouping-spec 𝓤 H 𝓜 𝓖 𝓡 =
     (λ κs. ((λ g. told g ∷ []), (uint-vals w64, (uint-vals w64, (slice-vals, (slice-vals, (slice-vals, tt))))))) (λ κs. (told-so, (uint-tells w64, (uint-tells w64, (shr-slice-tells (named 0) (κs .0) R, (shr-slice-tells (named 1) (κs .1 .0) u8, (mut-slice-tells (named 2) (κs .1 .1 .0) u8, tt)))))))
     (λ κs qs bounds a g are. needs 𝓤 _ _ (λ asked. walk 𝓤 H (𝓖 .A) W (𝓜 .mem) (𝓡 .run) (κs .0) (κs .1 .0) (κs .1 .1 .0) (qs .0) (qs .1 .0) (qs .1 .1 .0) (a .1 .0) (a .1 .1 .0) (a .1 .1 .1 .0) (a .1 .1 .1 .1 .0) (a .1 .1 .1 .1 .1 .0)
     (are .1 .0 .1) (are .1 .1 .0 .1) (are .1 .1 .1 .0 .0 .1) (are .1 .1 .1 .1 .0 .0 .1) (are .1 .1 .1 .1 .1 .0 .0 .1) 𝓣
-    (cited 𝓤 H (Refuse 𝓤 H (𝓖 .A) (𝓜 .mem) (𝓡 .run)) 𝓜 𝓡 code.env #refuse ref-def.routine code.calls-lines·refusal·write-refused (ref-thm.met 𝓤 H 𝓜 𝓖 𝓡))
+    (cited 𝓤 H (Refuse 𝓤 H (𝓖 .A) (𝓜 .mem) (𝓡 .run)) 𝓜 𝓡 code.env #refuse ref-def.routine code.calls-answering·write-refused (ref-thm.met 𝓤 H 𝓜 𝓖 𝓡))
     (cited 𝓤 H (SizeOf 𝓤 H (𝓖 .A) (𝓜 .mem) (𝓡 .run)) 𝓜 𝓡 code.env #size-of-run siz-def.routine code.calls-cuts·size·size-of-run (siz-thm.met 𝓤 H 𝓜 𝓖 𝓡))
     (cited 𝓤 H (Result 𝓤 H (𝓖 .A) (𝓜 .mem) (𝓡 .run)) 𝓜 𝓡 code.env #write-result res-def.routine code.calls-texts·result·write-result (res-thm.met 𝓤 H 𝓜 𝓖 𝓡))
     (a .0) (are .0) asked))))
