@@ -1,6 +1,6 @@
 // Thinning: the links whose ends share a group stay.
 use crate::Thinned;
-use crate::group::group_table;
+use crate::firm::finish;
 use cuts::record::Record;
 use cuts::record::copy;
 use links::link_at;
@@ -53,14 +53,14 @@ fn keep(names: &[u8; 128], links: &[u8], space: &mut [u8]) -> usize
     kept
 }
 
-// The names become the labels: those of grouping from the empty record on, in a record space of its own.
+// The names become the labels: one pile of all bones is cut to the end, from the empty record on, in a record space of its own.
 pub(crate) fn name_groups(table: &mut [u32; 16384], n: u64, k: u64, names: &mut [u8; 128])
     requires { ⌜ (first (countRows n k true 0) ≡ Accepted) × Small n (now table) ⌝ }
     ensures { λ _. ⌜ ((b : ℕ) → b < n → heapOf (now (names .exit)) b ≡ label n (held (now (table .entry))) k b) ⌝ }
 {
     *names = [0u8; 128];
     let mut space = [0u8; 127 * Record::ENTRY];
-    group_table(table, n, k, b"", names, &mut space);
+    finish(table, n as usize, k, names, &mut space, Record::empty());
 }
 
 // Thinning above the filled table: row 14, and then the links that stay.
