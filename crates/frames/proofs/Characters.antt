@@ -1,7 +1,7 @@
 -- Laws of a frame's kind and of its line feed, as they are looked at: the kind that two characters mean, its payload, and the feed behind so many bytes.
 -- Assumes nothing.
-use Prim.Native.Nat.{ℕ, zero, suc, _*_, _-_, _≤_, _<_}
-use mathlib.Core.Path.{_≡_, refl, _∙_}
+use Prim.Native.Nat.{ℕ, zero, suc, _*_, _-_, _≤_, _<_, zero-le}
+use mathlib.Core.Path.{_≡_, refl, sym, _∙_}
 use mathlib.Core.Logic.{⊎-elim}
 use mathlib.Core.Bool.{Bool, true, false, _&&_}
 use mathlib.Core.List.{List, [], _∷_}
@@ -13,7 +13,7 @@ use lib.ListN.{length, getD}
 use Rattle.meaning.proofs.Tests.{both, left-of, right-of}
 use Rattle.frames.specs.Frame.{payloads, isKind}
 use Rattle.frames.specs.Characters.{pairOf, kindOf, feedAt}
-use Rattle.frames.proofs.Frames.{chosen, pair-small, pair-zero}
+use Rattle.frames.proofs.Frames.{chosen}
 
 -- no payload is longer than 21 bytes
 most : ℕ → List ℕ → Bool
@@ -30,35 +30,28 @@ pub payload-most : (kind : ℕ) → getD payloads kind 0 ≤ 21
 unfolding most
 payload-most kind = at-most 21 payloads tt kind
 
--- a kind is 1 to 7
-pub kind-bounds : (k : ℕ) → T (isKind k) → (1 ≤ k) × (k < 8)
+-- a kind is a number from 1 on that the table has
+pub kind-bounds : (k : ℕ) → T (isKind k) → (1 ≤ k) × (k < length payloads)
 unfolding isKind
-kind-bounds k t = (leb→le 1 k (left-of (leb 1 k) (ltb k 8) t), ltb→lt k 8 (right-of (leb 1 k) (ltb k 8) t))
+kind-bounds k t =
+    (leb→le 1 k (left-of (leb 1 k) (ltb k (length payloads)) t), ltb→lt k (length payloads) (right-of (leb 1 k) (ltb k (length payloads)) t))
 
-pub bounds-kind : (k : ℕ) → 1 ≤ k → k < 8 → T (isKind k)
+pub bounds-kind : (k : ℕ) → 1 ≤ k → k < length payloads → T (isKind k)
 unfolding isKind
-bounds-kind k a b = both (leb 1 k) (ltb k 8) (le→leb 1 k a) (lt→ltb k 8 b)
+bounds-kind k a b = both (leb 1 k) (ltb k (length payloads)) (le→leb 1 k a) (lt→ltb k (length payloads) b)
 
--- the kind that two characters mean
-pub kind-low : (d : ℕ) → 48 ≤ d → d < 56 → kindOf 48 d ≡ d - 48
+-- the kind that two characters mean: their number, where it is below those that the table has; nought is no kind
+pub kind-low : (c d : ℕ) → pairOf c d < length payloads → pairOf c d ≡ kindOf c d
 unfolding kindOf
-kind-low d a b =
-    let e = pair-zero d a (omega arith) in
-    let n : 0 ≤ d - 48 = omega arith in
-    ⊎-elim (λ w. w .1 ∙ e)
-    (λ w. w .1 ∙ ⊎-elim (λ z. z) (λ h. absurd (T-not (isKind (pairOf 48 d)) (w .0) (bounds-kind (pairOf 48 d) (omega arith) (omega arith)))) (eq-or-lt-of-le n))
-    (chosen (isKind (pairOf 48 d)) (pairOf 48 d) 0)
-
-pub kind-none : (c d : ℕ) → (c ≡ 48 → 48 ≤ d → d < 56 → ⊥) → kindOf c d ≡ 0
-unfolding kindOf
-kind-none c d f =
-    ⊎-elim
-    (λ w.
-    let b = kind-bounds (pairOf c d) (w .0) in
-    let p = pair-small c d (omega (arith, b .1)) in
-    absurd (f (p .0) (p .1) (omega (arith, b .1, p .2))))
-    (λ w. w .1)
+kind-low c d low =
+    ⊎-elim (λ w. sym (w .1))
+    (λ w. ⊎-elim (λ z. sym z ∙ sym (w .1)) (λ h. absurd (T-not (isKind (pairOf c d)) (w .0) (bounds-kind (pairOf c d) h low))) (eq-or-lt-of-le zero-le))
     (chosen (isKind (pairOf c d)) (pairOf c d) 0)
+
+pub kind-none : (c d : ℕ) → length payloads ≤ pairOf c d → 0 ≡ kindOf c d
+unfolding kindOf
+kind-none c d high =
+    ⊎-elim (λ w. absurd (omega (arith, high, kind-bounds (pairOf c d) (w .0) .1))) (λ w. sym (w .1)) (chosen (isKind (pairOf c d)) (pairOf c d) 0)
 
 -- a line feed behind so many bytes, by its tests
 pub feed-none : (cs : List ℕ) (size : ℕ) → length cs ≤ 2 * size → false ≡ feedAt cs size

@@ -101,24 +101,6 @@ pair-bound c d =
 value-small : (c : ℕ) → valueOf c < 10 → (48 ≤ c) × (valueOf c ≡ c - 48)
 value-small c h = ⊎-elim (λ w. (w .0, w .2)) (λ w. ⊎-elim (λ v. absurd (omega arith)) (λ v. absurd (omega arith)) w) (value-cases c)
 
-pub pair-small : (c d : ℕ) → pairOf c d < 10 → (c ≡ 48) × (48 ≤ d) × (pairOf c d ≡ d - 48)
-unfolding pairOf
-pair-small c d h =
-    ⊎-elim
-    (λ w.
-    let e : pairOf c d ≡ valueOf c * 16 + valueOf d = w .1 in
-    let x = value-small c (omega arith) in
-    let y = value-small d (omega arith) in
-    (omega (arith, x .0, x .1), y .0, omega (arith, x .0, x .1, y .1)))
-    (λ w. absurd (omega (arith, w .1)))
-    (chosen (ltb (valueOf c) 16 && ltb (valueOf d) 16) (valueOf c * 16 + valueOf d) 256)
-
-pub pair-zero : (d : ℕ) → 48 ≤ d → d ≤ 57 → pairOf 48 d ≡ d - 48
-pair-zero d a b =
-    let x : valueOf 48 ≡ 0 = value-low 48 (omega arith) (omega arith) in
-    let y : valueOf d ≡ d - 48 = value-low d a b in
-    pair-digits 48 d (omega arith) (omega arith) ∙ omega arith
-
 -- bytes to digits and back
 pub bytesOf-hex : (bs : List ℕ) → Bytes bs → bytesOf (hex bs) ≡ bs
 unfolding bytesOf hex

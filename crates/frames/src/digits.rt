@@ -1,4 +1,5 @@
 // Digits, the byte that a pair of them means, and the kind that a line's first pair means.
+use crate::frame::KINDS;
 ghost use mathlib.Core.Path.{_≡_};
 ghost use Rattle.frames.specs.Frame.{valueOf};
 ghost use Rattle.frames.specs.Characters.{pairOf, kindOf};
@@ -32,15 +33,12 @@ pub fn pair(high: u8, low: u8) -> usize
     256
 }
 
-// The kind that the first two characters of a line mean, nought where there is no such kind. Every kind has a 0 in front.
+// The kind that the first two characters of a line mean, nought where there is no such kind.
 pub fn kind_of(high: u8, low: u8) -> usize
     ensures { λ r. ⌜ r ≡ kindOf high low ⌝ }
 {
-    let kind = std::num::wrapping_sub_u8(low, 48);
-    if high != 48 {
-        return 0;
-    }
-    if kind < 8 { wide(kind) } else { 0 }
+    let kind = pair(high, low);
+    if kind < KINDS { kind } else { 0 }
 }
 
 // A byte as a number that counts bytes and places.

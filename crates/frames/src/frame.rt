@@ -6,8 +6,11 @@ ghost use Rattle.frames.specs.Frame.{payloads};
 ghost use Rattle.frames.specs.Characters.{feedAt};
 use crate::digits::wide;
 
+// Kinds are numbers below this.
+pub const KINDS: usize = 8;
+
 // The payload's length by kind; there is no kind 00.
-const PAYLOADS: [u8; 8] = [0, 3, 4, 21, 2, 16, 2, 3];
+const PAYLOADS: [u8; KINDS] = [0, 3, 4, 21, 2, 16, 2, 3];
 
 // The length of a kind's payload, nought where there is no such kind. Most frames are links: where the next line starts is then known without
 // waiting for the table.
@@ -17,7 +20,11 @@ pub fn payload(kind: usize) -> usize
     if kind == 2 {
         return wide(PAYLOADS[2]);
     }
-    if kind < 8 { wide(PAYLOADS[kind]) } else { 0 }
+    if kind < KINDS {
+        wide(PAYLOADS[kind])
+    } else {
+        0
+    }
 }
 
 // A byte added to a sum of bytes, with the carry thrown away.
