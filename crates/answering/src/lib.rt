@@ -1,5 +1,6 @@
 // The program's one function, from bytes to bytes: an input text is read, its bones are grouped, and the result text is written; or the first refusal's
 // frame, alone. The functions over link records are proved by hand, so each only lends, and goes by one answer; numbers are left to covered ones.
+use cuts::record::Record;
 use cuts::size::size_of;
 use cuts::size::size_of_run;
 use cutting::Answer;
@@ -50,7 +51,7 @@ fn group_read(n: u64, k: u64, links: &[Link], given: &[u8], out: &mut [u8]) -> W
     ensures { λ r. ⌜ Answers (first (groupedRows n k (now (links .entry)) (now (given .entry)))) n k (now (links .entry)) (now (given .entry)) (now (out .entry)) (now (out .exit)) r ⌝ }
 {
     let mut labels = [0u8; 128];
-    let mut space = [0u8; 2667];
+    let mut space = [0u8; 127 * Record::ENTRY];
     let grouped = grouping_records(n, k, links, given, &mut labels, &mut space);
     after_grouping(grouped, n, k, links, &space, out)
 }
@@ -92,7 +93,7 @@ pub fn answer(input: &[u8], out: &mut [u8]) -> Written
         tally: 0,
     };
     let mut links = [none; 4096];
-    let mut space = [0u8; 2667];
+    let mut space = [0u8; 127 * Record::ENTRY];
     let reading = read(input, &mut links, &mut space);
     after_reading(reading, &links, &space, out)
 }

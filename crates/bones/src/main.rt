@@ -5,12 +5,13 @@ mod input;
 use answering::answer;
 use input::read_input;
 use libc::STDOUT_FILENO;
+use texts::LONGEST;
 use texts::Written;
 
 // Writes what was answered.
 fn main() {
     let mut input = [0u8; 65537];
-    let mut out = [0u8; 7141];
+    let mut out = [0u8; LONGEST];
     let size = read_input(&mut input);
     match answer(&input[..size], &mut out) {
         Written::Bytes { count } => {

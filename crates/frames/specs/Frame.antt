@@ -9,6 +9,10 @@ use lib.ListN.{length, getD}
 abbrev pub payloads : List ℕ
 payloads = 0 ∷ 3 ∷ 4 ∷ 21 ∷ 2 ∷ 16 ∷ 2 ∷ 3 ∷ []
 
+-- the bytes of a line: two for each byte of the payload, and five for the kind, the sum and the line feed
+abbrev pub lineSize : ℕ → ℕ
+lineSize kind = 2 * getD payloads kind 0 + 5
+
 unfoldable pub isKind : ℕ → Bool
 isKind kind = leb 1 kind && ltb kind (length payloads)
 

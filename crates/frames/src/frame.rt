@@ -12,6 +12,19 @@ pub const KINDS: usize = 8;
 // The payload's length by kind; there is no kind 00.
 const PAYLOADS: [u8; KINDS] = [0, 3, 4, 21, 2, 16, 2, 3];
 
+// The bytes of a line of each kind that is written: two for each byte of its payload, and five for the kind, the sum and the line feed.
+pub const HEAD_LINE: usize = 2 * (PAYLOADS[1] as usize) + 5;
+
+pub const LINK_LINE: usize = 2 * (PAYLOADS[2] as usize) + 5;
+
+pub const CUT_LINE: usize = 2 * (PAYLOADS[3] as usize) + 5;
+
+pub const LABEL_LINE: usize = 2 * (PAYLOADS[4] as usize) + 5;
+
+pub const CLOSE_LINE: usize = 2 * (PAYLOADS[6] as usize) + 5;
+
+pub const REFUSAL_LINE: usize = 2 * (PAYLOADS[7] as usize) + 5;
+
 // The length of a kind's payload, nought where there is no such kind. Most frames are links: where the next line starts is then known without
 // waiting for the table.
 pub fn payload(kind: usize) -> usize

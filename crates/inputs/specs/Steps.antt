@@ -10,6 +10,7 @@ use Rattle.meaning.specs.Judge.{refuse}
 use Rattle.cuts.specs.Record.{entrySize}
 use Rattle.replay.specs.Rows.{recordRow}
 use Rattle.placing.specs.Placing.{over}
+use Rattle.frames.specs.Frame.{lineSize}
 use Rattle.lines.specs.declared.Written.{Written}
 use Rattle.lines.specs.declared.Written.the-variants.{Bytes, Refused as Refused·written}
 use Rattle.lines.specs.Kinds.{headLine, cutLines, closeLine}
@@ -24,7 +25,7 @@ pub record Counts (n k count : ℕ) : Type 0 where
 
 -- the length of an input text of so many links and cuts
 abbrev pub inputSize : ℕ → ℕ → ℕ
-inputSize count cuts = 20 + 13 * count + 47 * cuts
+inputSize count cuts = lineSize 1 + lineSize 6 + lineSize 2 * count + lineSize 3 * cuts
 
 -- rows 9 and 20 of the input writer, of so many links
 unfoldable pub laterRows : ℕ → ℕ → List ℕ → ℕ → List Judged
@@ -33,7 +34,7 @@ laterRows n count bytes room = recordRow n (length bytes) ∷ refuse (ltb room (
 -- an input text's frames but its links, around the room that so many links take; nothing where refused
 unfoldable pub around : Judged → ℕ → ℕ → ℕ → List ℕ → List ℕ → List ℕ
 around Accepted n k count bytes room =
-    over (over room 0 (headLine n k)) (11 + 13 * count) (cutLines (length bytes / entrySize) bytes ++ closeLine (1 + count + length bytes / entrySize))
+    over (over room 0 (headLine n k)) (lineSize 1 + lineSize 2 * count) (cutLines (length bytes / entrySize) bytes ++ closeLine (1 + count + length bytes / entrySize))
 around (Refused number place) n k count bytes room = room
 
 pub record Begun (rows : Judged) (n k count : ℕ) (bytes room room′ : List ℕ) (r : Written) : Type 0 where

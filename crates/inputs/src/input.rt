@@ -1,6 +1,10 @@
 // The input writer: head, links, cuts, close. Its links are lent as records, which only `put_links` goes through; the frames around them are
 // written first, and leave room for them.
 use cuts::record::Record;
+use frames::frame::CLOSE_LINE;
+use frames::frame::CUT_LINE;
+use frames::frame::HEAD_LINE;
+use frames::frame::LINK_LINE;
 use lent::judge_records;
 use lines::Written;
 use lines::kinds::put_close;
@@ -16,18 +20,22 @@ ghost use lib.ListN.{length, take};
 ghost use Rattle.meaning.specs.Judge.{first};
 ghost use Rattle.meaning.specs.declared.Judged.the-variants.{Accepted};
 ghost use Rattle.stored.specs.Records.{firstOf};
+ghost use Rattle.frames.specs.Frame.{lineSize};
 ghost use Rattle.placing.specs.Placing.{over};
 ghost use Rattle.lines.specs.Kinds.{linkLine, linkLines};
 ghost use Rattle.lines.specs.Writing.{Writes};
 ghost use Rattle.inputs.specs.Inputs.{inputText, inputRows};
 ghost use Rattle.inputs.specs.Steps.{Counts, inputSize, laterRows, around, Begun, linksLeft};
 
+// The lines around links and cuts: head and close.
+const AROUND: usize = HEAD_LINE + CLOSE_LINE;
+
 // The length of an input text.
 fn size_of(count: usize, cuts: usize) -> usize
     requires { ⌜ (count ≤ 4096) × (cuts ≤ 127) ⌝ }
     ensures { λ r. ⌜ r ≡ inputSize count cuts ⌝ }
 {
-    20 + 13 * count + 47 * cuts
+    AROUND + LINK_LINE * count + CUT_LINE * cuts
 }
 
 // Rows 9 and 20.
@@ -64,7 +72,7 @@ fn put_around(text: &mut [u8], n: u64, k: u64, count: usize, bytes: &[u8])
     ensures { λ _. ⌜ now (text .exit) ≡ around Accepted n k count (now (bytes .entry)) (now (text .entry)) ⌝ }
 {
     let links = put_head(text, 0, n as u8, k as u16);
-    let close = put_cuts(text, links + 13 * count, bytes);
+    let close = put_cuts(text, links + LINK_LINE * count, bytes);
     let frames = 1 + count + bytes.len() / Record::ENTRY;
     put_close(text, close, frames as u16);
 }
@@ -112,16 +120,16 @@ fn links_left(written: Written, count: usize) -> usize
 
 // The link in place i, behind the head and the links before it.
 pub(crate) fn put_record(text: &mut [u8], i: usize, l: Link)
-    requires { ⌜ 11 + 13 * i + 13 ≤ length (now text) ⌝ }
-    ensures { λ _. ⌜ now (text .exit) ≡ over (now (text .entry)) (11 + 13 * i) (linkLine l) ⌝ }
+    requires { ⌜ lineSize 1 + lineSize 2 * i + lineSize 2 ≤ length (now text) ⌝ }
+    ensures { λ _. ⌜ now (text .exit) ≡ over (now (text .entry)) (lineSize 1 + lineSize 2 * i) (linkLine l) ⌝ }
 {
-    put_link(text, 11 + 13 * i, l.a, l.b, l.tally);
+    put_link(text, HEAD_LINE + LINK_LINE * i, l.a, l.b, l.tally);
 }
 
 // Frames 02 of the first links of a run of records, behind the head.
 fn put_links(links: &[Link], count: usize, text: &mut [u8])
-    requires { ⌜ (count ≤ length (now links)) × (0 < count → 11 + 13 * count ≤ length (now text)) ⌝ }
-    ensures { λ _. ⌜ now (text .exit) ≡ over (now (text .entry)) 11 (linkLines (take count (now (links .entry)))) ⌝ }
+    requires { ⌜ (count ≤ length (now links)) × (0 < count → lineSize 1 + lineSize 2 * count ≤ length (now text)) ⌝ }
+    ensures { λ _. ⌜ now (text .exit) ≡ over (now (text .entry)) (lineSize 1) (linkLines (take count (now (links .entry)))) ⌝ }
 {
     let mut i = 0;
     while i < count {

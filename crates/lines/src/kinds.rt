@@ -1,10 +1,13 @@
 // The lines of each kind, written at a place of lent room: head, link, cuts, labels, close, and the frame of a refusal. Each gives the
 // place behind what it wrote. Where the room is too short for all of it, each writes nothing and gives the place.
 use cuts::record::Record;
+use frames::frame::CUT_LINE;
+use frames::frame::LABEL_LINE;
 use placing::put_line;
 ghost use mathlib.Core.Path.{_≡_};
 ghost use Prim.Native.Nat.{_+_, _*_, _/_, _%_, _≤_, _<_, min};
 ghost use lib.ListN.{length};
+ghost use Rattle.frames.specs.Frame.{lineSize};
 ghost use Rattle.pairs.specs.Side.{heapOf};
 ghost use Rattle.cuts.specs.Record.{entrySize};
 ghost use Rattle.lines.specs.Kinds.{headLine, linkLine, cutLines, labelLine, labelLines, closeLine, refusalLine};
@@ -41,8 +44,8 @@ pub fn put_link(room: &mut [u8], at: usize, a: u8, b: u8, tally: u16) -> usize
 
 // Frames 03 of the whole entries of a record, in room that they fit in.
 fn each_cut(room: &mut [u8], at: usize, bytes: &[u8]) -> usize
-    requires { ⌜ at + 47 * (length (now bytes) / entrySize) ≤ length (now room) ⌝ }
-    ensures { λ r. ⌜ (r ≡ at + 47 * (length (now (bytes .entry)) / entrySize)) × (now (room .exit) ≡ over (now (room .entry)) at (cutLines (length (now (bytes .entry)) / entrySize) (now (bytes .entry)))) ⌝ }
+    requires { ⌜ at + lineSize 3 * (length (now bytes) / entrySize) ≤ length (now room) ⌝ }
+    ensures { λ r. ⌜ (r ≡ at + lineSize 3 * (length (now (bytes .entry)) / entrySize)) × (now (room .exit) ≡ over (now (room .entry)) at (cutLines (length (now (bytes .entry)) / entrySize) (now (bytes .entry)))) ⌝ }
 {
     let cuts = bytes.len() / Record::ENTRY;
     let mut next = at;
@@ -63,7 +66,7 @@ pub fn put_cuts(room: &mut [u8], at: usize, bytes: &[u8]) -> usize
     if room.len() < at {
         return at;
     }
-    if (room.len() - at) / 47 < bytes.len() / Record::ENTRY {
+    if (room.len() - at) / CUT_LINE < bytes.len() / Record::ENTRY {
         return at;
     }
     each_cut(room, at, bytes)
@@ -79,8 +82,8 @@ fn put_label(room: &mut [u8], at: usize, bone: u8, name: u8) -> usize
 
 // Frames 04 of the bones 0 to n − 1, in room that they fit in.
 fn each_label(room: &mut [u8], at: usize, n: usize, names: &[u8; 128]) -> usize
-    requires { ⌜ (n ≤ 128) × (at + 9 * n ≤ length (now room)) ⌝ }
-    ensures { λ r. ⌜ (r ≡ at + 9 * n) × (now (room .exit) ≡ over (now (room .entry)) at (labelLines n (heapOf (now (names .entry))))) ⌝ }
+    requires { ⌜ (n ≤ 128) × (at + lineSize 4 * n ≤ length (now room)) ⌝ }
+    ensures { λ r. ⌜ (r ≡ at + lineSize 4 * n) × (now (room .exit) ≡ over (now (room .entry)) at (labelLines n (heapOf (now (names .entry))))) ⌝ }
 {
     let mut next = at;
     let mut bone = 0;
@@ -106,7 +109,7 @@ pub fn put_labels(room: &mut [u8], at: usize, n: usize, names: &[u8; 128]) -> us
     if room.len() < at {
         return at;
     }
-    if room.len() - at < 9 * bones {
+    if room.len() - at < LABEL_LINE * bones {
         return at;
     }
     each_label(room, at, bones, names)

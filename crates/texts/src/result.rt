@@ -1,6 +1,10 @@
 // The result writer: head, the record's cuts, the pile names that they leave, close. Its links are lent as records, so the writer itself is proved by
 // hand: it fills the table and leaves the rest to a function above the filled table.
 use cuts::record::Record;
+use frames::frame::CLOSE_LINE;
+use frames::frame::CUT_LINE;
+use frames::frame::HEAD_LINE;
+use frames::frame::LABEL_LINE;
 use lent::fill_records;
 use lines::Written;
 use lines::kinds::put_close;
@@ -14,6 +18,7 @@ ghost use mathlib.Core.Path.{_≡_};
 ghost use Prim.Native.Nat.{_+_, _*_, _≤_, _<_};
 ghost use lib.Dec.{ltb};
 ghost use lib.ListN.{length};
+ghost use Rattle.frames.specs.Frame.{lineSize};
 ghost use Rattle.meaning.specs.Judge.{refuse, first};
 ghost use Rattle.meaning.specs.declared.Judged.the-variants.{Accepted};
 ghost use Rattle.stored.specs.Records.{firstOf};
@@ -24,12 +29,15 @@ ghost use Rattle.texts.specs.Writers.{resultText, resultRows};
 ghost use Rattle.placing.specs.Placing.{over};
 ghost use Rattle.texts.specs.Writing.{Named};
 
+// The lines around cuts and labels: head and close.
+const AROUND: usize = HEAD_LINE + CLOSE_LINE;
+
 // The length of a result text.
 fn length_of(n: u64, cuts: usize) -> usize
     requires { ⌜ (n ≤ 128) × (cuts ≤ 127) ⌝ }
-    ensures { λ r. ⌜ r ≡ 20 + 47 * cuts + 9 * n ⌝ }
+    ensures { λ r. ⌜ r ≡ lineSize 1 + lineSize 6 + lineSize 3 * cuts + lineSize 4 * n ⌝ }
 {
-    20 + 47 * cuts + 9 * (n as usize)
+    AROUND + CUT_LINE * cuts + LABEL_LINE * (n as usize)
 }
 
 // The text at the front of lent room that it fits in, from the names that the record's cuts leave.

@@ -1,10 +1,11 @@
 -- A text read into link space and record space that start at nought, and written again from the whole of both.
-use Prim.Native.Nat.{ℕ}
+use Prim.Native.Nat.{ℕ, _*_}
 use mathlib.Core.Path.{_≡_}
 use mathlib.Core.List.{List}
 use lib.ListN.{length, replicate}
 use Rattle.meaning.specs.declared.Link.{Link}
 use Rattle.meaning.specs.Judge.{first}
+use Rattle.cuts.specs.Record.{entrySize}
 use Rattle.stored.specs.Records.{noLink}
 use Rattle.reading.specs.declared.Reading.{Reading}
 use Rattle.reading.specs.Reader.{Reads}
@@ -18,7 +19,7 @@ abbrev pub linkSpace : List Link
 linkSpace = replicate 4096 noLink
 
 abbrev pub recordSpace : List ℕ
-recordSpace = replicate 2667 0
+recordSpace = replicate (127 * entrySize) 0
 
 pub record Again (text out out′ : List ℕ) (r : Written) : Type 0 where
   pub links : List Link

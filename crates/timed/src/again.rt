@@ -1,4 +1,5 @@
 // The longest text read and written again, from bytes to bytes: what the bench times. Its head is taken to say 128 bones and a threshold of 3.
+use cuts::record::Record;
 use meaning::Link;
 use reading::reader::read;
 use texts::Written;
@@ -16,7 +17,7 @@ fn again(text: &[u8], out: &mut [u8]) -> Written
         tally: 0,
     };
     let mut links = [none; 4096];
-    let mut space = [0u8; 2667];
+    let mut space = [0u8; 127 * Record::ENTRY];
     read(text, &mut links, &mut space);
     write_input(128, 3, &links, &space, out)
 }
