@@ -2,7 +2,6 @@
 pub mod Fitting
 pub mod AfterGroup
 pub mod AfterRead
-pub mod AnswerRow
 pub mod Calls
 pub mod ReadingRow
 pub mod Theorems

@@ -10,7 +10,7 @@ use Rattle.meaning.specs.declared.Judged.the-variants.{Accepted, Refused}
 use Rattle.meaning.specs.Judge.{first}
 use Rattle.meaning.specs.Tally.{Tally}
 use Rattle.meaning.specs.Firm.{label, groups}
-use Rattle.meaning.specs.Heap.{start, piles, LawfulRun, left, finished}
+use Rattle.meaning.specs.Heap.{Heap, start, piles, LawfulRun, left, finished}
 use Rattle.cutting.specs.declared.Answer.{Answer}
 use Rattle.cutting.specs.declared.Answer.the-variants.{Gave, Refused as Refused·answer}
 use Rattle.cuts.specs.Record.{entrySize, cutsOf}
@@ -21,10 +21,14 @@ unfoldable pub answered : Judged → ℕ → Bool → Answer
 answered Accepted count done = Gave count done
 answered (Refused number place) count done = Refused·answer number place
 
+-- the pile names that a record's cuts leave
+abbrev pub namesLeft : ℕ → List ℕ → Heap
+namesLeft n bytes = left n start (cutsOf bytes)
+
 -- checking: the piles that the record leaves. `rows` is what is tried, and w the tally that the links make
 pub record Checked (rows : List Judged) (n : ℕ) (w : Tally) (k : ℕ) (bytes labels labels′ : List ℕ) (r : Answer) : Type 0 where
-  pub answer : r ≡ answered (first rows) (piles n (left n start (cutsOf bytes))) (finished n w k (left n start (cutsOf bytes)))
-  pub names-left : labels′ ≡ settled (first rows) labels (written n (left n start (cutsOf bytes)) labels)
+  pub answer : r ≡ answered (first rows) (piles n (namesLeft n bytes)) (finished n w k (namesLeft n bytes))
+  pub names-left : labels′ ≡ settled (first rows) labels (written n (namesLeft n bytes) labels)
 
 -- grouping's record: the given entries, then its own, a lawful run and finished; the rest stays
 pub record Continued (n : ℕ) (w : Tally) (k : ℕ) (bytes space space′ : List ℕ) : Type 0 where

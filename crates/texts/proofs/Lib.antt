@@ -1,4 +1,5 @@
 -- The laws about writing a result text, and the theorems about texts.
+pub mod AnswerRow
 pub mod WritesTexts
 pub mod WritesRows
 pub mod WritesResult

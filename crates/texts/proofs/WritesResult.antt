@@ -1,74 +1,77 @@
--- The result writer above the filled table: what rows 1 to 13 give, whether by the table's tally or by the links'.
+-- The result writer above checking: the names that it leaves, and the rows that it tried.
 -- Assumes nothing.
-use Prim.Native.Nat.{ℕ, _≤_, min}
+use Prim.Native.Nat.{ℕ, _≤_, _<_, min}
 use mathlib.Core.Path.{_≡_, refl, sym, _∙_, ap, subst}
-use mathlib.Core.Bool.{true}
-use mathlib.Core.List.{List}
+use mathlib.Core.Bool.{Bool, true}
+use mathlib.Core.List.{List, [], _∷_}
 use native.Mathlib.Omega.{arith}
 use lib.Dec.{ltb}
-use lib.ListN.{length, replicate}
+use lib.ListN.{length, getD, drop}
 use Rattle.meaning.specs.declared.Link.{Link}
 use Rattle.meaning.specs.declared.Judged.{Judged}
 use Rattle.meaning.specs.declared.Judged.the-variants.{Accepted, Refused}
 use Rattle.meaning.specs.Judge.{refuse, first}
-use Rattle.meaning.specs.Tally.{Tally, pairTally}
-use Rattle.meaning.specs.Heap.{Heap, start, left}
+use Rattle.meaning.specs.Tally.{pairTally}
 use Rattle.links.specs.Links.{tableRows}
+use Rattle.links.proofs.LinksRows.{table-counted, accepted-left, accepted-right}
 use Rattle.stored.specs.Records.{firstOf}
-use Rattle.pairs.specs.Table.{held, filled}
-use Rattle.links.proofs.LinksBytes.{Short}
-use Rattle.heaps.specs.Names.{settled, names as namesOf}
-use Rattle.cuts.specs.Record.{cutsOf}
+use Rattle.pairs.specs.Side.{heapOf}
+use Rattle.heaps.specs.Names.{settled, written}
+use Rattle.heaps.proofs.Names.{names-at}
 use Rattle.replay.specs.Rows.{recordRows}
-use Rattle.replay.proofs.Lawful.{few-rows}
-use Rattle.heaps.proofs.Parting.{judged-names}
-use Rattle.cutting.proofs.Carried.{rows-alike, filled-alike}
+use Rattle.cutting.specs.declared.Answer.{Answer}
+use Rattle.cutting.specs.Rows.{labelRow, checkingRows}
+use Rattle.cutting.specs.Runs.{namesLeft, answered}
+use Rattle.cutting.specs.Calls.{Checking}
+use Rattle.cutting.proofs.Answers.{label-fits}
+use Rattle.cutting.proofs.Carried.{checking-core, checking-stop}
 use Rattle.cutting.proofs.Continuing.{record-sound}
 use Rattle.lines.specs.declared.Written.{Written}
 use Rattle.lines.specs.Writing.{Writes}
 use Rattle.texts.specs.Writers.{resultText, resultRows}
-use Rattle.texts.specs.Writing.{Named}
+use Rattle.texts.specs.Writing.{Named, judgedOf}
 use Rattle.texts.proofs.WritesRows.{result-rows}
 
--- what was judged before is a refusal; or it accepted
-pub firstOf-refused : (i j : Judged) {number place : ℕ} → i ≡ Refused number place → firstOf i j ≡ Refused number place
-unfolding firstOf
-firstOf-refused i j e = rw e refl
+-- what was answered says what the rows came to
+judged-so : (j : Judged) (count : ℕ) (done : Bool) (r : Answer) → r ≡ answered j count done → judgedOf r ≡ j
+unfolding answered judgedOf
+judged-so Accepted count done r e = ap judgedOf e
+judged-so (Refused number place) count done r e = ap judgedOf e
 
-firstOf-accepted : (i j : Judged) → i ≡ Accepted → firstOf i j ≡ j
-unfolding firstOf
-firstOf-accepted i j e = rw e refl
+module _ (n k : ℕ) (links : List Link) (bytes labels : List ℕ) (long : length labels ≡ 128) where
+  abbrev rows : List Judged
+  rows = checkingRows n k true links bytes (length labels)
 
--- the writer after both: the links were accepted, and the record was judged as its rows say
-pub writes-judged : (i j x last : Judged) (text room room′ : List ℕ) (r : Written) → i ≡ Accepted → j ≡ x → Writes (firstOf j last) text room room′ r → Writes (firstOf (firstOf i x) last) text room room′ r
-writes-judged i j x last text room room′ r e f w = subst (λ (y : Judged). Writes (firstOf y last) text room room′ r) (f ∙ sym (firstOf-accepted i x e)) w
-
--- a record that was replayed to its end leaves names that can be written
-pub judged-named : (n : ℕ) (w : Tally) (k : ℕ) (bytes was names : List ℕ) (r : Judged) → n ≤ 128 → k ≤ 65535 → r ≡ first (recordRows (min n 128) w k bytes)
-    → names ≡ settled r was (namesOf 128 (left (min n 128) start (cutsOf bytes))) → r ≡ Accepted → Named n k bytes names
-judged-named n w k bytes was names r few low judged after e =
-    record {
-      bones = few;
-      threshold = omega arith;
-      cuts = omega (arith, record-sound n w k bytes (sym (few-rows n w k bytes few judged) ∙ e) .few);
-      names-of = λ b l. ap (λ (h : Heap). h b) (judged-names n bytes _ few e after .0);
-    }
-
--- rows 1 to 13 by the table that the links fill are those by the links
-module _ (n k : ℕ) (links : List Link) (bytes : List ℕ) where
-  same-rows : (j : Judged) → j ≡ first (tableRows n k true links) → Short links
-      → firstOf j (first (recordRows n (held (filled j (replicate 16384 0) links)) k bytes)) ≡ firstOf (first (tableRows n k true links)) (first (recordRows n (pairTally links) k bytes))
+  -- rows 1 to 13: there is a label for every bone, so that row 7 never refuses
+  rows-are : (j : Judged) → first (tableRows n k true links) ≡ j → first rows ≡ firstOf j (first (recordRows n (pairTally links) k bytes))
   unfolding firstOf
-  same-rows Accepted e short =
-      let alike = filled-alike n k true links Accepted e refl (filled Accepted (replicate 16384 0) links) refl short in
-      ap first (rows-alike n (held (filled Accepted (replicate 16384 0) links)) (pairTally links) alike k bytes)
-      ∙ ap (λ (i : Judged). firstOf i (first (recordRows n (pairTally links) k bytes))) e
-  same-rows (Refused number place) e short = ap (λ (i : Judged). firstOf i (first (recordRows n (pairTally links) k bytes))) e
+  rows-are Accepted e =
+      sym (checking-core n k true links bytes (length labels) (pairTally links) (λ i j hi hj. refl) e)
+      ∙ label-fits n (length labels) _ (omega (arith, table-counted n k true links e .few-bones, long))
+  rows-are (Refused number place) e = checking-stop n k true links bytes (length labels) number place e
 
-  pub judged-result : (j : Judged) → j ≡ first (tableRows n k true links) → Short links → (room room′ : List ℕ) (r : Written)
-      → Writes (firstOf (firstOf j (first (recordRows n (held (filled j (replicate 16384 0) links)) k bytes))) (refuse (ltb (length room) (length (resultText n k bytes))) 20 0)) (resultText n k bytes) room room′ r
-      → Writes (first (resultRows n k links bytes (length room))) (resultText n k bytes) room room′ r
-  judged-result j e short room room′ r w =
-      subst (λ (i : Judged). Writes i (resultText n k bytes) room room′ r)
-      (ap (λ (i : Judged). firstOf i (refuse (ltb (length room) (length (resultText n k bytes))) 20 0)) (same-rows j e short) ∙ sym (result-rows n k links bytes (length room)))
-      w
+  module _ (labels′ : List ℕ) (r : Answer) (checked : Checking n k true links bytes labels labels′ r) where
+    judged : judgedOf r ≡ first rows
+    judged = judged-so (first rows) _ _ r (checked .answer)
+
+    pub checked-named : judgedOf r ≡ Accepted → Named n k bytes labels′
+    unfolding checkingRows settled written heapOf
+    checked-named e =
+        let accepted = sym judged ∙ e in
+        let counted = table-counted n k true links (accepted-left (tableRows n k true links) _ accepted) in
+        let sound = record-sound n (pairTally links) k bytes (accepted-right (labelRow n (length labels) ∷ []) (recordRows n (pairTally links) k bytes) (accepted-right (tableRows n k true links) _ accepted)) in
+        record {
+          bones = counted .few-bones;
+          threshold = omega (arith, counted .low-threshold);
+          cuts = omega (arith, sound .few, counted .few-bones);
+          names-of = λ b l. ap (λ (x : List ℕ). getD x b 0) (checked .names-left ∙ ap (λ (j : Judged). settled j labels (written n (namesLeft n bytes) labels)) accepted)
+              ∙ names-at (min n (length labels)) (namesLeft n bytes) (drop n labels) b (omega (arith, counted .few-bones, long));
+        }
+
+    pub checked-result : (room room′ : List ℕ) (w : Written) → Writes (firstOf (judgedOf r) (refuse (ltb (length room) (length (resultText n k bytes))) 20 0)) (resultText n k bytes) room room′ w
+        → Writes (first (resultRows n k links bytes (length room))) (resultText n k bytes) room room′ w
+    checked-result room room′ w x =
+        let last = refuse (ltb (length room) (length (resultText n k bytes))) 20 0 in
+        subst (λ (i : Judged). Writes i (resultText n k bytes) room room′ w)
+        (ap (λ (i : Judged). firstOf i last) (judged ∙ rows-are (first (tableRows n k true links)) refl) ∙ sym (result-rows n k links bytes (length room)))
+        x

@@ -8,9 +8,9 @@ use Rattle.meaning.specs.declared.Link.{Link}
 use Rattle.meaning.specs.declared.Judged.{Judged}
 use Rattle.meaning.specs.Judge.{refuse}
 use Rattle.meaning.specs.Tally.{pairTally}
-use Rattle.meaning.specs.Heap.{start, left}
 use Rattle.links.specs.Links.{tableRows}
-use Rattle.cuts.specs.Record.{entrySize, cutsOf}
+use Rattle.cuts.specs.Record.{entrySize}
+use Rattle.cutting.specs.Runs.{namesLeft}
 use Rattle.replay.specs.Rows.{recordRows}
 use Rattle.reading.specs.Lines.{Line, kind}
 use Rattle.lines.specs.Kinds.{headLine, cutLines, labelLines, closeLine}
@@ -18,7 +18,7 @@ use Rattle.lines.specs.Kinds.{headLine, cutLines, labelLines, closeLine}
 -- a result text: head, the record's cuts, the pile names that they leave, close
 unfoldable pub resultText : ℕ → ℕ → List ℕ → List ℕ
 resultText n k bytes =
-    headLine n k ++ cutLines (length bytes / entrySize) bytes ++ labelLines n (left n start (cutsOf bytes)) ++ closeLine (1 + length bytes / entrySize + n)
+    headLine n k ++ cutLines (length bytes / entrySize) bytes ++ labelLines n (namesLeft n bytes) ++ closeLine (1 + length bytes / entrySize + n)
 
 -- whether a text has no notes, of which the input writer writes none
 unfoldable pub unnoted : List Line → Bool

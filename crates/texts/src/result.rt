@@ -1,19 +1,18 @@
-// The result writer: head, the record's cuts, the pile names that they leave, close. Its links are lent as records, so the writer itself is proved by
-// hand: it fills the table and leaves the rest to a function above the filled table.
+// The result writer: head, the record's cuts, the pile names that checking gives, close. Its links are lent as records, so the writer itself is proved by
+// hand: it checks the record, and leaves the rest to a function of what checking answered.
 use cuts::record::Record;
+use cutting::Answer;
+use cutting::checking_records;
 use frames::frame::CLOSE_LINE;
 use frames::frame::CUT_LINE;
 use frames::frame::HEAD_LINE;
 use frames::frame::LABEL_LINE;
-use lent::fill_records;
 use lines::Written;
 use lines::kinds::put_close;
 use lines::kinds::put_cuts;
 use lines::kinds::put_head;
 use lines::kinds::put_labels;
-use meaning::Judged;
 use meaning::Link;
-use replay::judge_record;
 ghost use mathlib.Core.Path.{_≡_};
 ghost use Prim.Native.Nat.{_+_, _*_, _≤_, _<_};
 ghost use lib.Dec.{ltb};
@@ -22,12 +21,10 @@ ghost use Rattle.frames.specs.Frame.{lineSize};
 ghost use Rattle.meaning.specs.Judge.{refuse, first};
 ghost use Rattle.meaning.specs.declared.Judged.the-variants.{Accepted};
 ghost use Rattle.stored.specs.Records.{firstOf};
-ghost use Rattle.pairs.specs.Table.{held};
-ghost use Rattle.replay.specs.Rows.{recordRows};
 ghost use Rattle.lines.specs.Writing.{Writes};
 ghost use Rattle.texts.specs.Writers.{resultText, resultRows};
 ghost use Rattle.placing.specs.Placing.{over};
-ghost use Rattle.texts.specs.Writing.{Named};
+ghost use Rattle.texts.specs.Writing.{Named, judgedOf};
 
 // The lines around cuts and labels: head and close.
 const AROUND: usize = HEAD_LINE + CLOSE_LINE;
@@ -77,52 +74,33 @@ pub(crate) fn result_from(
     }
 }
 
-// The same after rows 1 to 13, by what they gave.
+// The same after checking, by what it answered: its refusal, or the names that it left.
 pub(crate) fn result_after(
-    judged: Judged,
+    checked: Answer,
     n: u64,
     k: u64,
     bytes: &[u8],
     names: &[u8; 128],
     room: &mut [u8],
 ) -> Written
-    requires { ⌜ (judged ≡ Accepted → Named n k (now bytes) (now names)) ⌝ }
-    ensures { λ r. ⌜ Writes (firstOf judged (refuse (ltb (length (now (room .entry))) (length (resultText n k (now (bytes .entry))))) 20 0)) (resultText n k (now (bytes .entry))) (now (room .entry)) (now (room .exit)) r ⌝ }
+    requires { ⌜ (judgedOf checked ≡ Accepted → Named n k (now bytes) (now names)) ⌝ }
+    ensures { λ r. ⌜ Writes (firstOf (judgedOf checked) (refuse (ltb (length (now (room .entry))) (length (resultText n k (now (bytes .entry))))) 20 0)) (resultText n k (now (bytes .entry))) (now (room .entry)) (now (room .exit)) r ⌝ }
 {
-    match judged {
-        Judged::Refused { number, place } => Written::Refused { number, place },
-        Judged::Accepted => result_from(room, n, k, bytes, names),
+    match checked {
+        Answer::Refused { number, place } => Written::Refused { number, place },
+        Answer::Gave {
+            count: _,
+            finished: _,
+        } => result_from(room, n, k, bytes, names),
     }
 }
 
-// The result writer once the links were judged and added: their refusal; else rows 9 to 13, while the record is replayed, and then row 20 and the
-// text.
-pub(crate) fn result_judged(
-    judged: Judged,
-    table: &[u32; 16384],
-    n: u64,
-    k: u64,
-    bytes: &[u8],
-    text: &mut [u8],
-) -> Written
-    requires { ⌜ (judged ≡ Accepted → (0 < n) × (n ≤ 128) × (k ≤ 65535)) ⌝ }
-    ensures { λ r. ⌜ Writes (firstOf (firstOf judged (first (recordRows n (held (now (table .entry))) k (now (bytes .entry))))) (refuse (ltb (length (now (text .entry))) (length (resultText n k (now (bytes .entry))))) 20 0)) (resultText n k (now (bytes .entry))) (now (text .entry)) (now (text .exit)) r ⌝ }
-{
-    match judged {
-        Judged::Refused { number, place } => Written::Refused { number, place },
-        Judged::Accepted => {
-            let mut names = [0u8; 128];
-            let replayed = judge_record(table, n as usize, k, bytes, &mut names);
-            result_after(replayed, n, k, bytes, &names, text)
-        }
-    }
-}
-
-// Writes a result text of links lent as records: rows 1 to 6, 9 to 13 and 20, then the text.
+// Writes a result text of links lent as records: rows 1 to 6 and 9 to 13, which checking tries, and 20; then the text. The names in it are those that
+// checking gives.
 pub fn write_result(n: u64, k: u64, links: &[Link], bytes: &[u8], text: &mut [u8]) -> Written
     ensures { λ r. ⌜ Writes (first (resultRows n k (now (links .entry)) (now (bytes .entry)) (length (now (text .entry))))) (resultText n k (now (bytes .entry))) (now (text .entry)) (now (text .exit)) r ⌝ }
 {
-    let mut table = [0u32; 16384];
-    let judged = fill_records(n, k, links, &mut table);
-    result_judged(judged, &table, n, k, bytes, text)
+    let mut names = [0u8; 128];
+    let checked = checking_records(n, k, links, bytes, &mut names);
+    result_after(checked, n, k, bytes, &names, text)
 }

@@ -57,7 +57,7 @@ use Rattle.texts.proofs.result.write_result.Symbol as res-def
 use Rattle.texts.proofs.result.write_result.Symbol.{name as #write-result}
 use Rattle.texts.proofs.result.write_result.Met as res-thm
 use Rattle.answering.specs.Steps.{Ready, AfterGrouping}
-use Rattle.answering.proofs.AnswerRow.{An, told, told-so, typed-answer, made-answer, refusal-fits, count-fits}
+use Rattle.texts.proofs.AnswerRow.{An, told, told-so, typed-answer, made-answer, refusal-fits, count-fits}
 use Rattle.answering.proofs.Calls.{Refuse, calls-to-last, calls-refuse, matches, lands-then}
 use Rattle.lent.proofs.Locals.{part-of, lends-front}
 use Rattle.answering.proofs.write_refused.Symbol as ref-def

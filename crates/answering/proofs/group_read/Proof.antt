@@ -58,7 +58,7 @@ use Rattle.lines.proofs.WritesAnswer.{Wn, typed-held}
 use Rattle.answering.specs.Prints.{groupedRows, Answers}
 use Rattle.answering.specs.Steps.{Ready, AfterGrouping}
 use Rattle.answering.proofs.AfterGroup.{grouping-ready, grouping-answers}
-use Rattle.answering.proofs.AnswerRow.{An, typed-answer, made-answer}
+use Rattle.texts.proofs.AnswerRow.{An, typed-answer, made-answer}
 use Rattle.lent.proofs.Locals.{localTy, here, OwnMut, OwnShared, Back, lends-mut, mut-back, lends-shared, local-room, shared-room, repeat-typed, lies-repeat, bytes-known, big-lit}
 use Rattle.answering.proofs.after_grouping as aft
 use Rattle.answering.proofs.after_grouping.Symbol as aft-def

@@ -1,16 +1,22 @@
--- `result::result_after` meets its contract. Assumes nothing.
+-- `result::result_after` meets its contract, by cases on what checking answered. Assumes nothing.
+use mathlib.Core.Path.{ap}
 use borrow.Author.Needs.{needs}
+use Rattle.texts.specs.Writing.{judgedOf}
 use Rattle.texts.proofs.WritesRows.{writes-refused, writes-after}
 use Rattle.texts.proofs.result.result_after.Statement.{statement}
 use Rattle.texts.proofs.result.result_after.Tie as tie
 
 result-from-requires : tie.Need-result-from-requires
-result-from-requires c κs = c .before .before .before .before .before .pre (c .before .enum-told .given .1)
+unfolding judgedOf
+result-from-requires c κs = c .before .before .before .before .before .pre (ap judgedOf (c .before .enum-told .given .1))
+
+returns : tie.Need-returns
+unfolding judgedOf
+returns c = writes-refused _ _ _ _ (ap judgedOf (c .before .checked .given .1))
 
 returns-2 : tie.Need-returns-2
-returns-2 c = writes-after _ _ _ _ _ _ (c .before .before .before .before .enum-told .given .1) (c .before .before .result-from .ensures)
+unfolding judgedOf
+returns-2 c = writes-after _ _ _ _ _ _ (ap judgedOf (c .before .before .before .before .enum-told .given .1)) (c .before .before .result-from .ensures)
 
 pub result-after-spec : {M : Type 1} → statement M
-result-after-spec =
-    tie.close
-    (tie.spec (λ c. search needs) (λ c. search needs) result-from-requires (λ c. writes-refused _ _ _ _ (c .before .judged .given .1)) (λ c. search needs) returns-2)
+result-after-spec = tie.close (tie.spec (λ c. search needs) (λ c. search needs) result-from-requires returns (λ c. search needs) returns-2)

@@ -1,4 +1,4 @@
--- What grouping answers, as the walks see it: its row, and what whoever holds one knows.
+-- What checking and grouping answer, as the walks see it: its row, and what whoever holds one knows.
 -- Assumes nothing.
 use Prim.Native.Nat.{ℕ, _<_, _^_}
 use mathlib.Core.Bool.{Bool}
