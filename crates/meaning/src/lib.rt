@@ -1,6 +1,7 @@
 // The words that every part shares: a link, and what judging an input gives.
 
-// Two bones that were matched, and the tally of independent matching traits.
+// Two bones that were matched, and the tally of independent matching traits. In C it is struct bones_link.
+#[repr(C)]
 pub struct Link {
     pub a: u8,
     pub b: u8,

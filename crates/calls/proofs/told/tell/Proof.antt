@@ -2,8 +2,8 @@
 use mathlib.Core.Path.{sym, _∙_, ap}
 use Rattle.calls.specs.Told.{told}
 use borrow.Author.Needs.{needs}
-use Rattle.calls.proofs.tell.Statement.{statement}
-use Rattle.calls.proofs.tell.Tie as tie
+use Rattle.calls.proofs.told.tell.Statement.{statement}
+use Rattle.calls.proofs.told.tell.Tie as tie
 
 returns : tie.Need-returns
 unfolding told
