@@ -1,24 +1,14 @@
 /*
- * The two calls, as a C program sees them: document 01's cases that are run, every row of the refusal table that they can meet, what
- * is written and what is not, and runs of other cutters. Expectations were worked out by hand, or by reference.h.
+ * Grouping and checking, over links as bytes and over link records: every test is run in both forms. Runs of other cutters are handed
+ * over at every length.
  */
 #include <inttypes.h>
 
 #include "bones.h"
 #include "lent.h"
+#include "llamas.h"
 #include "reference.h"
-
-static unsigned passed, failed;
-
-static void expect(int holds, const char *what, const char *part)
-{
-    if (holds) {
-        passed++;
-    } else {
-        failed++;
-        printf("FAILED: %s: %s\n", what, part);
-    }
-}
+#include "test.h"
 
 /* One call: its numbers, its runs, and how much room is lent. */
 struct job {
@@ -30,27 +20,48 @@ struct job {
     size_t labels_length, space_length;
 };
 
-static struct arena links_arena, record_arena, labels_arena, space_arena;
+/* whether the tests are run over records now */
+static int over_records;
 
-static struct bones_answer call(const struct job *job, int grouping)
+static struct arena links_arena, record_arena, labels_arena, space_arena;
+static struct bones_link links_records[BONES_LINKS + 1];
+
+static struct bones_answer call_bytes(const struct job *job, int grouping, const uint8_t *record, uint8_t *labels, uint8_t *space)
 {
     const uint8_t *links = arena_copy(&links_arena, job->links, job->links_length);
-    const uint8_t *record = arena_copy(&record_arena, job->record, job->record_length);
-    uint8_t *labels = arena_lend(&labels_arena, job->labels_length);
-    uint8_t *space = arena_lend(&space_arena, grouping ? job->space_length : 0);
     if (grouping)
         return bones_grouping(job->n, job->k, links, job->links_length, record, job->record_length, labels, job->labels_length, space,
                               job->space_length);
     return bones_checking(job->n, job->k, links, job->links_length, record, job->record_length, labels, job->labels_length);
 }
 
-static int inputs_kept(const struct job *job)
+static struct bones_answer call_records(const struct job *job, int grouping, const uint8_t *record, uint8_t *labels, uint8_t *space)
 {
-    return arena_same(&links_arena, job->links, job->links_length) && arena_same(&record_arena, job->record, job->record_length);
+    size_t count = records_of(job->links, job->links_length, links_records);
+    const struct bones_link *links = arena_copy_links(&links_arena, links_records, count);
+    if (grouping)
+        return bones_grouping_records(job->n, job->k, links, count, record, job->record_length, labels, job->labels_length, space,
+                                      job->space_length);
+    return bones_checking_records(job->n, job->k, links, count, record, job->record_length, labels, job->labels_length);
 }
 
-static const uint8_t *given_labels(void) { return labels_arena.base + ARENA - labels_arena.length; }
-static const uint8_t *given_space(void) { return space_arena.base + ARENA - space_arena.length; }
+static struct bones_answer call(const struct job *job, int grouping)
+{
+    const uint8_t *record = arena_copy(&record_arena, job->record, job->record_length);
+    uint8_t *labels = arena_lend(&labels_arena, job->labels_length);
+    uint8_t *space = arena_lend(&space_arena, grouping ? job->space_length : 0);
+    return over_records ? call_records(job, grouping, record, labels, space) : call_bytes(job, grouping, record, labels, space);
+}
+
+static int inputs_kept(const struct job *job)
+{
+    const void *links = over_records ? (const void *)links_records : job->links;
+    size_t length = over_records ? job->links_length / BONES_LINK * sizeof *links_records : job->links_length;
+    return arena_same(&links_arena, links, length) && arena_same(&record_arena, job->record, job->record_length);
+}
+
+static const uint8_t *given_labels(void) { return arena_run(&labels_arena); }
+static const uint8_t *given_space(void) { return arena_run(&space_arena); }
 
 static int is(struct bones_answer answer, uint32_t number, uint32_t place, uint32_t count, uint32_t finished)
 {
@@ -75,12 +86,6 @@ static void refuses(const char *what, const struct job *job, uint32_t number, ui
     if (number != BONES_BAD_SPACE)
         refuses_in(what, job, number, place, 0);
 }
-
-/* two triangles 0 1 2 and 3 4 5, and a link 2-3 */
-enum { LLAMAS = 6, LLAMAS_LINKS = 7 };
-static const uint8_t llamas[BONES_LINK * LLAMAS_LINKS] = {
-    0, 1, 0, 1, 0, 2, 0, 1, 1, 2, 0, 1, 3, 4, 0, 1, 3, 5, 0, 1, 4, 5, 0, 1, 2, 3, 0, 1,
-};
 
 static struct job llamas_job(uint64_t k)
 {
@@ -115,11 +120,11 @@ static void refusals_of_runs(void)
     struct job job = llamas_job(2);
     for (size_t length = 1; length < 10; length++) {
         job.links_length = length;
-        if (length % BONES_LINK != 0)
+        if (length % BONES_LINK != 0 && !over_records)
             refuses("row 3, not whole", &job, 3, 0);
     }
     job.links = many;
-    for (size_t less = 0; less < BONES_LINK; less++) {
+    for (size_t less = 0; less < BONES_LINK && !(over_records && less > 0); less++) {
         job.links_length = sizeof many - less;
         refuses("row 3, too many", &job, 3, 0);
     }
@@ -435,13 +440,6 @@ static void picks_up(const char *what, const struct job *list, int down)
     }
 }
 
-static uint32_t random_below(uint32_t end)
-{
-    static uint64_t state = 20;
-    state = state * UINT64_C(6364136223846793005) + UINT64_C(1442695040888963407);
-    return (uint32_t)(state >> 33) % end;
-}
-
 static size_t random_links(unsigned n, uint8_t *links)
 {
     size_t count = random_below(3 * n);
@@ -471,12 +469,8 @@ static void runs_of_others(void)
     }
 }
 
-int main(void)
+static void in_one_form(void)
 {
-    arena_make(&links_arena);
-    arena_make(&record_arena);
-    arena_make(&labels_arena);
-    arena_make(&space_arena);
     refusals_of_numbers();
     refusals_of_runs();
     refusals_of_links();
@@ -489,6 +483,27 @@ int main(void)
     cases_of_llamas();
     cases_of_128();
     runs_of_others();
-    printf("%u passed, %u failed\n", passed, failed);
-    return failed != 0;
+}
+
+/* Record space is asked for an entry fewer than bones, and none of it for none. */
+static void space_asked(void)
+{
+    expect(BONES_SPACE(0) == 0 && BONES_SPACE(1) == 0 && BONES_SPACE(2) == 21 && BONES_SPACE(BONES_MOST) == 2667, "BONES_SPACE",
+           "n - 1 entries");
+    struct job job = llamas_job(2);
+    job.n = 0;
+    job.space_length = BONES_SPACE(job.n);
+    refuses("row 1 with the space of no bones", &job, 1, 0);
+}
+
+void test_calls(void)
+{
+    arena_make(&links_arena, ARENA);
+    arena_make(&record_arena, ARENA);
+    arena_make(&labels_arena, ARENA);
+    arena_make(&space_arena, ARENA);
+    space_asked();
+    in_one_form();
+    over_records = 1;
+    in_one_form();
 }

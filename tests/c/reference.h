@@ -26,6 +26,16 @@ static inline void pit_fill(struct pit *pit, unsigned n, uint32_t k, const uint8
     }
 }
 
+/* links as bytes made records, one by one; gives their number */
+static inline size_t records_of(const uint8_t *links, size_t length, struct bones_link *records)
+{
+    for (size_t i = 0; i < length / BONES_LINK; i++) {
+        const uint8_t *link = links + BONES_LINK * i;
+        records[i] = (struct bones_link){link[0], link[1], (uint16_t)(link[2] << 8 | link[3])};
+    }
+    return length / BONES_LINK;
+}
+
 static inline int side_holds(const uint8_t *side, unsigned bone)
 {
     return side[bone / 8] >> bone % 8 & 1;
