@@ -8,6 +8,7 @@ typedef __SIZE_TYPE__ size_t;
 typedef __UINT32_TYPE__ uint32_t;
 typedef __UINT64_TYPE__ uint64_t;
 typedef __UINT8_TYPE__ uint8_t;
+typedef __UINT16_TYPE__ uint16_t;
 typedef long ssize_t;
 
 ssize_t read(int, void *, size_t);
@@ -22,7 +23,9 @@ enum { MOST_ASKED = 1 << 20, MOST_ANSWERED = 1 << 24, LENGTH = 8 };
 /* No question takes near this many seconds; when they have passed, the alarm ends the process. */
 enum { PATIENCE = 10 };
 
-static uint8_t asked[MOST_ASKED], answered[MOST_ANSWERED];
+/* What is asked is aligned for any number, since it may hold records. */
+static _Alignas(16) uint8_t asked[MOST_ASKED];
+static uint8_t answered[MOST_ANSWERED];
 
 /* Whether all the bytes came; the pipe may end between two questions. */
 static int take(int from, void *bytes, size_t length)

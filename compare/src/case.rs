@@ -1,16 +1,15 @@
 //! One thing to compare, as a text that can be kept and run again.
 
-use crate::library::Call;
+use crate::call::Call;
 use crate::second::calls::Job;
 
 /// Characters of a text that a failure prints: the hexadecimal of 4,096 links and 127 cuts, and what stands around it.
 const MOST_PRINTED: usize = 40_000;
 
 #[derive(Clone)]
-pub enum Case {
-    Grouping(Job),
-    Checking(Job),
-    Program(Vec<u8>),
+pub struct Case {
+    pub call: Call,
+    pub job: Job,
 }
 
 fn hex(bytes: &[u8]) -> String {
@@ -22,31 +21,29 @@ fn unhex(word: &str) -> Option<Vec<u8>> {
 }
 
 impl Case {
-    pub fn is_text(&self) -> bool {
-        matches!(self, Case::Program(_))
+    /// Records are whole links: bytes that are left over are no part of a run of them.
+    pub fn new(call: Call, mut job: Job) -> Case {
+        if call.has_records() {
+            job.links.truncate(job.links.len() / 4 * 4);
+        }
+        Case { call, job }
     }
 
-    pub fn as_text(&self) -> Option<Vec<u8>> {
-        match self {
-            Case::Program(text) => Some(text.clone()),
-            _ => None,
-        }
+    /// The program on a text.
+    pub fn program(text: Vec<u8>) -> Case {
+        Case::new(Call::Program, Job { text, ..Job::default() })
     }
 
-    pub fn as_call(&self) -> Option<(Call, &Job)> {
-        match self {
-            Case::Grouping(job) => Some((Call::Grouping, job)),
-            Case::Checking(job) => Some((Call::Checking, job)),
-            Case::Program(_) => None,
-        }
+    /// The same call over records.
+    pub fn over_records(&self) -> Case {
+        Case::new(self.call.over_records(), self.job.clone())
     }
 
     fn text(&self) -> String {
-        match self {
-            Case::Grouping(job) => job_text("grouping", job),
-            Case::Checking(job) => job_text("checking", job),
-            Case::Program(text) => format!("call program\ntext {}\n", hex(text)),
-        }
+        let job = &self.job;
+        let (links, record, text) = (hex(&job.links), hex(&job.record), hex(&job.text));
+        format!("call {}\nn {}\nk {}\nlinks {links}\nrecord {record}\ntext {text}\n", self.call.name(), job.n, job.k)
+            + &format!("labels {}\nspace {}\nlink_room {}\ntext_room {}\n", job.labels, job.space, job.link_room, job.text_room)
     }
 
     /// The text, and what to do with it. One that is longer than any list makes it is put into a file.
@@ -61,26 +58,19 @@ impl Case {
 
     pub fn from_text(text: &str) -> Option<Case> {
         let value = |key: &str| text.lines().find_map(|line| line.strip_prefix(key)?.strip_prefix(' '));
-        if value("call")? == "program" {
-            return Some(Case::Program(unhex(value("text")?)?));
-        }
+        let number = |key: &str| value(key)?.parse::<u64>().ok();
+        let bytes = |key: &str| unhex(value(key)?);
         let job = Job {
-            n: value("n")?.parse().ok()?,
-            k: value("k")?.parse().ok()?,
-            links: unhex(value("links")?)?,
-            record: unhex(value("record")?)?,
-            labels: value("labels")?.parse().ok()?,
-            space: value("space")?.parse().ok()?,
+            n: number("n")?,
+            k: number("k")?,
+            links: bytes("links")?,
+            record: bytes("record")?,
+            text: bytes("text")?,
+            labels: number("labels")? as usize,
+            space: number("space")? as usize,
+            link_room: number("link_room")? as usize,
+            text_room: number("text_room")? as usize,
         };
-        match value("call")? {
-            "grouping" => Some(Case::Grouping(job)),
-            "checking" => Some(Case::Checking(job)),
-            _ => None,
-        }
+        Some(Case::new(Call::from_name(value("call")?)?, job))
     }
-}
-
-fn job_text(call: &str, job: &Job) -> String {
-    let (links, record) = (hex(&job.links), hex(&job.record));
-    format!("call {call}\nn {}\nk {}\nlinks {links}\nrecord {record}\nlabels {}\nspace {}\n", job.n, job.k, job.labels, job.space)
 }

@@ -1,8 +1,10 @@
 //! The comparison: the product's calls and program held to an independent second program. See compare/README.md.
 
+mod call;
 mod case;
 mod judge;
 mod known;
+mod lent;
 mod library;
 mod made;
 mod plan;
@@ -11,15 +13,17 @@ mod program;
 mod second;
 mod self_test;
 mod server;
+mod table;
 
+use call::{Call, CALLS};
 use case::Case;
 use judge::Judge;
 use library::Library;
-use made::lists;
 use made::rng::Rng;
+use made::{cutter, lists};
 use product::{Outcome, Product};
 use program::Program;
-use second::calls::Job;
+use second::calls::{judge_links, Job};
 use server::Server;
 use std::path::PathBuf;
 use std::time::{Duration, Instant};
@@ -130,21 +134,29 @@ impl Tally {
     }
 }
 
-/// The calls on a list, and with the run that grouping made, handed back.
+/// The calls on a list, and with the run that grouping made, handed back. Lists that are not looked at thoroughly are thinned, written and
+/// read one in three.
 fn hold_calls(tally: &mut Tally, job: &Job, thorough: bool, rng: &mut Rng) {
-    let mut cases = plan::cases_of_list(job, thorough, rng);
-    if let Some(Outcome::Called(done)) = tally.hold_one(Case::Grouping(job.clone())) {
-        cases.extend(plan::handed_back(job, &done));
+    let Ok(pit) = judge_links(job.n, job.k, &job.links) else { return };
+    let cuts = cutter::run(&pit, rng);
+    let mut cases = plan::calls::cases(job, &pit, &cuts, thorough, rng);
+    if let Some(Outcome::Called(done)) = tally.hold_one(Case::new(Call::Grouping, job.clone())) {
+        cases.extend(plan::calls::handed_back(job, &done));
+    }
+    if thorough || rng.one_in(3) {
+        cases.extend(plan::thinning::cases(job, rng));
+        cases.extend(plan::writing::cases(job, &pit, &cuts, rng));
+        cases.extend(plan::reading::cases(&plan::texts::of_list(job, rng), rng));
     }
     tally.hold(&cases);
 }
 
 /// A text of a list; now and then a text with the cuts that the program printed for it.
 fn hold_text(tally: &mut Tally, job: &Job, rng: &mut Rng) {
-    let text = plan::text_of_list(job, rng);
-    let printed = tally.hold_one(Case::Program(text.clone()));
+    let text = plan::texts::of_list(job, rng);
+    let printed = tally.hold_one(Case::program(text.clone()));
     if let (Some(Outcome::Printed(printed)), true) = (printed, rng.one_in(4)) {
-        tally.hold(&plan::printed_again(&text, &printed));
+        tally.hold(&plan::texts::printed_again(&text, &printed).map(Case::program).into_iter().collect::<Vec<_>>());
     }
 }
 
@@ -168,11 +180,19 @@ fn hold_lists(tally: &mut Tally, options: &Options, seed: u64) {
     }
 }
 
+/// Texts at the limits, and small texts damaged in every way: for the program, and for the reader, which is also lent too little.
 fn hold_texts(tally: &mut Tally, options: &Options, seed: u64) {
     let mut rng = Rng::new(seed);
-    let mut cases = plan::edge_cases();
-    for text in plan::base_texts(options.texts, &mut rng) {
-        cases.extend(plan::cases_of_text(&text, &mut rng));
+    let limits = plan::texts::at_limits();
+    let small = plan::texts::small(options.texts, &mut rng);
+    let damaged: Vec<Vec<u8>> = small.iter().flat_map(|text| plan::texts::damaged(text, &mut rng)).collect();
+    let mut cases = Vec::new();
+    if tally.has_library() {
+        cases.extend(limits.iter().flat_map(|text| plan::reading::in_rooms(text, &mut rng)));
+        cases.extend(damaged.iter().map(|text| plan::reading::of_text(text, &mut rng)));
+    }
+    if tally.has_program() {
+        cases.extend(limits.into_iter().chain(damaged).map(Case::program));
     }
     for some in cases.chunks(1000) {
         if tally.enough() {
@@ -182,31 +202,38 @@ fn hold_texts(tally: &mut Tally, options: &Options, seed: u64) {
     }
 }
 
-/// Every row that can be met must have been met, or the comparison has a hole.
-fn unmet(met: &[u64; 21], rows: &[usize]) -> Vec<usize> {
-    rows.iter().copied().filter(|row| met[*row] < 2).collect()
+/// The calls that were compared; the program is one of them.
+fn compared(tally: &Tally) -> Vec<Call> {
+    let was = |call: &Call| if *call == Call::Program { tally.has_program() } else { tally.has_library() };
+    CALLS.into_iter().filter(was).collect()
+}
+
+/// How many cells of the table are wrong, which are printed: every row that a call can give must have been met in it, or the comparison has
+/// a hole, and no other.
+fn wrong_cells(tally: &Tally, calls: &[Call]) -> usize {
+    let table = &tally.judge.table;
+    let mut wrong = 0;
+    for call in calls {
+        for (rows, what) in [(table.unmet(*call), "met less than twice"), (table.strays(*call), "met, which cannot be")] {
+            if !rows.is_empty() {
+                println!("{}: rows {rows:?} {what}", call.name());
+            }
+            wrong += rows.len();
+        }
+    }
+    wrong
 }
 
 fn report(tally: &Tally, start: Instant) -> bool {
-    let (library, program) = (&tally.judge.met.library, &tally.judge.met.program);
-    let mut missing = Vec::new();
-    if tally.has_library() {
-        println!("library: carried out and refused by row: {:?}", &library[..14]);
-        missing.extend(unmet(library, &[0, 1, 2, 3, 4, 5, 6, 7, 8, 9, 10, 11, 12, 13]));
-    }
-    if tally.has_program() {
-        println!("program: carried out and refused by row: {:?}", &program[..20]);
-        missing.extend(unmet(program, &[0, 1, 2, 3, 4, 5, 6, 9, 10, 11, 12, 13, 15, 16, 17, 18, 19]));
-    }
-    if !missing.is_empty() {
-        println!("rows met less than twice: {missing:?}");
-    }
+    let calls = compared(tally);
+    println!("carried out (0) and refused, by row of the refusal table:\n{}", tally.judge.table.text(&calls).trim_end());
+    let wrong = wrong_cells(tally, &calls);
     if tally.held == 0 {
         println!("nothing was compared");
     }
     println!("compared in {:.0} s", start.elapsed().as_secs_f64());
-    println!("{} passed, {} failed", tally.held, tally.failed + missing.len() as u64);
-    tally.held > 0 && tally.failed == 0 && missing.is_empty()
+    println!("{} passed, {} failed", tally.held, tally.failed + wrong as u64);
+    tally.held > 0 && tally.failed == 0 && wrong == 0
 }
 
 fn replay(tally: &mut Tally, path: &PathBuf) -> Result<bool, String> {
@@ -229,9 +256,7 @@ fn run(options: &Options) -> Result<bool, String> {
     }
     let mut seed = options.seed;
     loop {
-        if tally.has_program() {
-            hold_texts(&mut tally, options, seed);
-        }
+        hold_texts(&mut tally, options, seed);
         hold_lists(&mut tally, options, seed);
         seed += 1;
         if tally.enough() || start.elapsed() >= Duration::from_secs(options.soak) {

@@ -1,9 +1,9 @@
 //! The product under test: its library, its program, or both.
 
+use crate::call::Call;
 use crate::case::Case;
-use crate::library::{Call, Done, Library};
+use crate::library::{Done, Library};
 use crate::program::Program;
-use crate::second::calls::Job;
 
 pub enum Outcome {
     Called(Done),
@@ -15,19 +15,22 @@ pub struct Product {
     pub program: Option<Program>,
 }
 
+fn is_program(case: &Case) -> bool {
+    case.call == Call::Program
+}
+
 impl Product {
     /// What comes of each case, or how the product failed; cases of one kind that stand together are handed over together.
     pub fn outcomes(&mut self, cases: &[Case]) -> Vec<Result<Outcome, String>> {
-        cases.chunk_by(|a, b| a.is_text() == b.is_text()).flat_map(|some| self.of_one_kind(some)).collect()
+        cases.chunk_by(|a, b| is_program(a) == is_program(b)).flat_map(|some| self.of_one_kind(some)).collect()
     }
 
     fn of_one_kind(&mut self, cases: &[Case]) -> Vec<Result<Outcome, String>> {
-        if cases[0].is_text() {
-            let texts: Vec<Vec<u8>> = cases.iter().filter_map(Case::as_text).collect();
+        if is_program(&cases[0]) {
+            let texts: Vec<Vec<u8>> = cases.iter().map(|case| case.job.text.clone()).collect();
             self.printed(&texts).into_iter().map(|printed| printed.map(Outcome::Printed)).collect()
         } else {
-            let calls: Vec<(Call, &Job)> = cases.iter().filter_map(Case::as_call).collect();
-            self.called(&calls).into_iter().map(|done| done.map(Outcome::Called)).collect()
+            self.called(cases).into_iter().map(|done| done.map(Outcome::Called)).collect()
         }
     }
 
@@ -38,10 +41,10 @@ impl Product {
         }
     }
 
-    fn called(&mut self, calls: &[(Call, &Job)]) -> Vec<Result<Done, String>> {
+    fn called(&mut self, cases: &[Case]) -> Vec<Result<Done, String>> {
         match &mut self.library {
-            Some(library) => library.call(calls),
-            None => calls.iter().map(|_| Err("there is no library to call".to_string())).collect(),
+            Some(library) => library.call(cases),
+            None => cases.iter().map(|_| Err("there is no library to call".to_string())).collect(),
         }
     }
 }

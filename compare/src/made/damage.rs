@@ -130,6 +130,22 @@ pub fn damaged_bytes(text: &[u8], rng: &mut Rng) -> Vec<Vec<u8>> {
     texts
 }
 
+/// One byte changed, left out or made the last.
+pub fn damaged_byte(text: &[u8], rng: &mut Rng) -> Vec<u8> {
+    let mut damaged = text.to_vec();
+    if text.is_empty() {
+        return damaged;
+    }
+    let at = rng.below(text.len());
+    let others = other_bytes(text[at], rng);
+    match rng.below(4) {
+        0 => damaged.truncate(at),
+        1 => drop(damaged.remove(at)),
+        _ => damaged[at] = rng.pick(&others),
+    }
+    damaged
+}
+
 fn other_bytes(byte: u8, rng: &mut Rng) -> Vec<u8> {
     let mut bytes = vec![byte.to_ascii_uppercase(), b'\n', b'0', b'a' + rng.below(6) as u8, byte ^ 1, byte ^ 0x80, rng.next() as u8];
     bytes.retain(|other| *other != byte);

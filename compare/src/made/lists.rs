@@ -13,7 +13,7 @@ pub fn list(n: usize, rng: &mut Rng) -> Job {
     rng.shuffle(&mut order);
     rng.shuffle(&mut links);
     let bytes = links.into_iter().flat_map(|(a, b, tally)| link_bytes(order[a], order[b], tally, rng)).collect();
-    Job { n: n as u64, k: k as u64, links: bytes, record: Vec::new(), labels: n, space: ENTRY * (n - 1) }
+    Job { n: n as u64, k: k as u64, links: bytes, labels: n, space: ENTRY * (n - 1), ..Job::default() }
 }
 
 fn links_and_threshold(n: usize, rng: &mut Rng) -> (Vec<Triple>, usize) {

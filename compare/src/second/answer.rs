@@ -28,6 +28,5 @@ fn bones(job: &Job) -> Result<String, Refusal> {
 
 fn thin(job: &Job) -> Result<String, Refusal> {
     let links = thinning(job.n, job.k, &job.links, 4096)?;
-    let bytes: Vec<u8> = links.iter().flat_map(|link| link.to_bytes()).collect();
-    Ok(raw_input_text(job.n, job.k, &bytes, &[]))
+    Ok(raw_input_text(job.n, job.k, &links, &[]))
 }

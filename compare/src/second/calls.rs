@@ -7,15 +7,19 @@ use super::{refuse_if, Refusal};
 const MOST_BONES: u64 = 128;
 const MOST_LINKS: usize = 4096;
 
-/// Everything that a call is given: numbers, runs of bytes, and the lengths of the room lent for writing.
-#[derive(Clone)]
+/// Everything that a call may be given: numbers, runs of bytes, and the lengths of the room lent for writing. Each call has its part.
+#[derive(Clone, Default)]
 pub struct Job {
     pub n: u64,
     pub k: u64,
     pub links: Vec<u8>,
     pub record: Vec<u8>,
+    pub text: Vec<u8>,
     pub labels: usize,
     pub space: usize,
+    /// In links, but in bytes where links are written as bytes.
+    pub link_room: usize,
+    pub text_room: usize,
 }
 
 /// Rows 1 to 6.
@@ -55,10 +59,21 @@ pub fn judge_checking(job: &Job) -> Result<(Pit, Heap), Refusal> {
     judge_job(job, false)
 }
 
-/// Thinning: the links whose ends share a group, in order; the room is counted in links.
-pub fn thinning(n: u64, k: u64, links: &[u8], room: usize) -> Result<Vec<Link>, Refusal> {
+/// Thinning's refusals: rows 1 to 6, 14; the room is counted in whole links.
+pub fn judge_thinning(n: u64, k: u64, links: &[u8], room: usize) -> Result<Pit, Refusal> {
     let pit = judge_links(n, k, links)?;
     refuse_if(room < pit.links.len(), 14, 0)?;
-    let labels = pit.labels();
-    Ok(pit.links.iter().filter(|link| labels[link.a] == labels[link.b]).copied().collect())
+    Ok(pit)
+}
+
+/// The links whose ends share a group, in order, as bytes.
+pub fn kept(pit: &Pit, labels: &[u8]) -> Vec<u8> {
+    let share = |link: &&Link| labels[link.a] == labels[link.b];
+    pit.links.iter().filter(share).flat_map(|link| link.to_bytes()).collect()
+}
+
+/// Thinning: the links that it keeps.
+pub fn thinning(n: u64, k: u64, links: &[u8], room: usize) -> Result<Vec<u8>, Refusal> {
+    let pit = judge_thinning(n, k, links, room)?;
+    Ok(kept(&pit, &pit.labels()))
 }

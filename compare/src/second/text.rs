@@ -6,6 +6,7 @@ use super::record::{cuts_of, judge_run, Cut, Heap, ENTRY};
 use super::{refuse_if, Refusal};
 
 const MOST_BYTES: usize = 65_536;
+const DIGITS: &[u8; 16] = b"0123456789abcdef";
 
 /// Bytes between the kind and the sum; none for a byte that is no kind.
 pub fn payload_length(kind: u8) -> Option<usize> {
@@ -23,16 +24,17 @@ pub fn payload_length(kind: u8) -> Option<usize> {
 pub fn line(kind: u8, payload: &[u8]) -> String {
     let sum: u32 = u32::from(kind) + payload.iter().map(|byte| u32::from(*byte)).sum::<u32>();
     let last = (256 - sum % 256) % 256;
-    let mut line = format!("{kind:02x}");
-    for byte in payload {
-        line.push_str(&format!("{byte:02x}"));
+    let mut line = String::new();
+    for byte in [&[kind], payload, &[last as u8]].concat() {
+        line.push(char::from(DIGITS[usize::from(byte / 16)]));
+        line.push(char::from(DIGITS[usize::from(byte % 16)]));
     }
-    line.push_str(&format!("{last:02x}\n"));
+    line.push('\n');
     line
 }
 
 fn nibble(byte: u8) -> Option<u8> {
-    b"0123456789abcdef".iter().position(|digit| *digit == byte).map(|value| value as u8)
+    DIGITS.iter().position(|digit| *digit == byte).map(|value| value as u8)
 }
 
 /// The bytes of a line that is well formed, its sum byte included.
@@ -184,7 +186,8 @@ pub fn refusal_text(refusal: Refusal) -> String {
 /// The grouping that the program is asked for by a text, with all the room that it may want; or the reader's refusal.
 pub fn asked(text: &[u8]) -> Result<Job, Refusal> {
     let input = read(text, 4096, ENTRY * 127)?;
-    Ok(Job { n: input.n.into(), k: input.k.into(), links: input.links, record: input.record, labels: 128, space: ENTRY * 127 })
+    let (n, k) = (input.n.into(), input.k.into());
+    Ok(Job { n, k, links: input.links, record: input.record, labels: 128, space: ENTRY * 127, ..Job::default() })
 }
 
 /// The cuts that a result text shows; none where it holds a line that is no frame.

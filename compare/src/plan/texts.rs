@@ -1,7 +1,6 @@
-//! What is compared: which cases are made of a list, and which texts of a text.
+//! Texts for the program and the reader: those of lists, those damaged in every way, and those at the limits.
 
-use crate::case::Case;
-use crate::library::Done;
+use super::{one_of, some_of, with_record};
 use crate::made::rng::Rng;
 use crate::made::{cutter, damage, lists};
 use crate::second::calls::{judge_grouping, judge_links, Job};
@@ -11,79 +10,14 @@ use crate::second::text::{asked, cuts_shown, line, raw_input_text};
 /// Bytes of a text that is damaged at every byte.
 const MOST_DAMAGED: usize = 600;
 
-/// Sizes as they are met: many of few bones, where every subset is tried, and some of each larger kind.
-pub fn size(turn: usize, rng: &mut Rng) -> usize {
-    match turn % 100 {
-        0..=69 => rng.within(1, 10),
-        70..=94 => rng.within(11, 24),
-        95..=98 => rng.within(25, 64),
-        _ => rng.within(65, 128),
-    }
-}
-
-/// The calls on one list: with more room than is asked for, with another cutter's run at every (or some) length, with spoilt runs and
-/// with spoilt calls. Lists that are not looked at thoroughly get a few of each.
-pub fn cases_of_list(job: &Job, thorough: bool, rng: &mut Rng) -> Vec<Case> {
-    let Ok(pit) = judge_links(job.n, job.k, &job.links) else { return Vec::new() };
-    let cuts = cutter::run(&pit, rng);
-    let mut cases = both(roomier(job, rng)).to_vec();
-    cases.push(Case::Checking(job.clone()));
-    let places = if thorough { places(cuts.len() + 1, rng) } else { vec![rng.below(cuts.len() + 1)] };
-    for &place in &places {
-        cases.extend(both(with_record(job, record_of(&cuts[..place]))));
-    }
-    for &place in &places {
-        let mut bad = damage::bad_runs(&pit, &cuts, place, rng);
-        rng.shuffle(&mut bad);
-        let some = if thorough { bad.len() } else { 1 };
-        cases.extend(bad.into_iter().take(some).flat_map(|record| both(with_record(job, record))));
-    }
-    for _ in 0..if thorough { 8 } else { 1 } {
-        cases.extend(both(damage::bad_job(&with_record(job, some_of(&cuts, rng)), rng)));
-    }
-    cases
-}
-
-/// The run that grouping made, handed back to both calls: it is finished, and nothing is added.
-pub fn handed_back(job: &Job, done: &Done) -> [Case; 2] {
-    let length = ENTRY * (done.answer.count as usize - 1);
-    both(with_record(job, done.record(length).to_vec()))
-}
-
 /// The cuts that were printed for a text, put into it.
-pub fn printed_again(text: &[u8], printed: &[u8]) -> Vec<Case> {
-    let (Ok(job), Some(cuts)) = (asked(text), cuts_shown(printed)) else { return Vec::new() };
-    vec![Case::Program(raw_input_text(job.n, job.k, &job.links, &record_of(&cuts)).into_bytes())]
+pub fn printed_again(text: &[u8], printed: &[u8]) -> Option<Vec<u8>> {
+    let (Ok(job), Some(cuts)) = (asked(text), cuts_shown(printed)) else { return None };
+    Some(raw_input_text(job.n, job.k, &job.links, &record_of(&cuts)).into_bytes())
 }
 
-fn both(job: Job) -> [Case; 2] {
-    [Case::Grouping(job.clone()), Case::Checking(job)]
-}
-
-fn roomier(job: &Job, rng: &mut Rng) -> Job {
-    Job { labels: job.labels + rng.below(200), space: job.space + rng.below(3000), ..job.clone() }
-}
-
-fn with_record(job: &Job, record: Vec<u8>) -> Job {
-    Job { record, ..job.clone() }
-}
-
-fn some_of(cuts: &[Cut], rng: &mut Rng) -> Vec<u8> {
-    record_of(&cuts[..rng.below(cuts.len() + 1)])
-}
-
-/// All places where they are few, or now and then; else some of them, the first and the last among them.
-fn places(count: usize, rng: &mut Rng) -> Vec<usize> {
-    if count <= 12 || rng.one_in(40) {
-        return (0..count).collect();
-    }
-    let mut places = vec![0, count - 1];
-    places.extend((0..6).map(|_| rng.below(count)));
-    places
-}
-
-/// A text of a list for the program: from nothing, half done by another cutter, with a bad run, or spoilt.
-pub fn text_of_list(job: &Job, rng: &mut Rng) -> Vec<u8> {
+/// A text of a list: from nothing, half done by another cutter, with a bad run, or spoilt.
+pub fn of_list(job: &Job, rng: &mut Rng) -> Vec<u8> {
     let Ok(pit) = judge_links(job.n, job.k, &job.links) else { return Vec::new() };
     let cuts = cutter::run(&pit, rng);
     let job = match rng.below(4) {
@@ -103,10 +37,6 @@ pub fn text_of_list(job: &Job, rng: &mut Rng) -> Vec<u8> {
     }
 }
 
-fn one_of(mut records: Vec<Vec<u8>>, rng: &mut Rng) -> Vec<u8> {
-    records.swap_remove(rng.below(records.len()))
-}
-
 /// Notes put anywhere after the head, the close made to count them.
 pub fn with_notes(text: &[u8], rng: &mut Rng) -> Vec<u8> {
     let mut lines: Vec<Vec<u8>> = text.split_inclusive(|byte| *byte == b'\n').map(<[u8]>::to_vec).collect();
@@ -121,14 +51,14 @@ pub fn with_notes(text: &[u8], rng: &mut Rng) -> Vec<u8> {
 }
 
 /// Small texts that are then damaged in every way; every other one is good.
-pub fn base_texts(count: usize, rng: &mut Rng) -> Vec<Vec<u8>> {
+pub fn small(count: usize, rng: &mut Rng) -> Vec<Vec<u8>> {
     let mut texts = vec![crate::self_test::LLAMAS.as_bytes().to_vec()];
     while texts.len() < count {
         let n = rng.within(1, 6);
         let mut job = lists::list(n, rng);
         job.links.truncate(4 * rng.within(1, 7));
         job.k = rng.within(1, 4) as u64;
-        let text = text_of_list(&job, rng);
+        let text = of_list(&job, rng);
         let good = asked(&text).and_then(|job| judge_grouping(&job)).is_ok();
         if text.len() <= MOST_DAMAGED && (good || texts.len() % 2 == 0) {
             texts.push(text);
@@ -138,12 +68,12 @@ pub fn base_texts(count: usize, rng: &mut Rng) -> Vec<Vec<u8>> {
 }
 
 /// A text and all the damage that is done to it.
-pub fn cases_of_text(text: &[u8], rng: &mut Rng) -> Vec<Case> {
+pub fn damaged(text: &[u8], rng: &mut Rng) -> Vec<Vec<u8>> {
     let mut texts = vec![text.to_vec()];
     texts.extend(damage::damaged_bytes(text, rng));
     texts.extend(damage::damaged_lines(text, rng));
     texts.extend(damage::damaged_frames(text, rng));
-    texts.into_iter().map(Case::Program).collect()
+    texts
 }
 
 fn closed(mut lines: Vec<String>) -> Vec<u8> {
@@ -154,7 +84,7 @@ fn closed(mut lines: Vec<String>) -> Vec<u8> {
 
 /// Texts at the limits: empty, of the greatest length and one byte more, of 4,096 links and one more, of 127 cuts and one more,
 /// of nothing but notes, and of lists that the calls refuse.
-pub fn edge_cases() -> Vec<Case> {
+pub fn at_limits() -> Vec<Vec<u8>> {
     let head = |n: u8, k: u16| line(1, &[n, (k >> 8) as u8, k as u8]);
     let link = |i: usize| line(2, &[(i % 128) as u8, ((i + 1 + i / 128 % 100) % 128) as u8, 0xff, 0xff]);
     let cut = |i: usize| line(3, &single(i));
@@ -182,7 +112,7 @@ pub fn edge_cases() -> Vec<Case> {
         long.resize(length, b'0');
         texts.push(long);
     }
-    texts.into_iter().map(Case::Program).collect()
+    texts
 }
 
 /// The cut, without links, of the greatest bone but i from pile 0.
