@@ -5,7 +5,7 @@
 --     calls-refuse     the call of `write_refused`: the text space is given up to it, and comes back as its last value
 -- Assumes `Given`, and that the table of calls is monotone under a frame.
 use mathlib.Core.Path.{_≡_, refl}
-use Prim.Native.Nat.{ℕ, _%_, _<_, _^_}
+use Prim.Native.Nat.{ℕ, _<_, _^_}
 use mathlib.Core.List.{List, [], _∷_}
 use lib.Dec.{T}
 use lib.ListN.{length}

@@ -2,14 +2,13 @@
 -- Assumes nothing.
 use Prim.Native.Nat.{ℕ, zero, suc, _+_, _*_, _/_, _%_, _≤_}
 use mathlib.Core.Path.{_≡_, refl, sym, _∙_, ap, ap₂}
-use mathlib.Core.List.{List, _∷_, _++_}
+use mathlib.Core.List.{List, _++_}
 use native.Mathlib.Omega.{arith}
 use lib.ListN.{length, take, drop, length-take, length-drop}
 use lib.Seq.{take-add, take-all}
 use Rattle.meaning.specs.Bytes.{Bytes}
 use Rattle.meaning.specs.Heap.{Cut}
 use Rattle.meaning.proofs.Bytes.{bytes-take, bytes-drop}
-use Rattle.cuts.specs.declared.record.Entry.{Entry}
 use Rattle.cuts.specs.Record.{entrySize, entryOf, entryBytes, cutOf, cutsIn, cutsOf}
 use Rattle.pairs.proofs.SideBytes.{sides-same}
 use Rattle.cuts.proofs.Entries.{bytes-entry}

@@ -12,7 +12,7 @@ use Rattle.meaning.specs.declared.Link.{Link}
 use Rattle.meaning.specs.declared.Judged.{Judged}
 use Rattle.meaning.specs.declared.Judged.the-variants.{Accepted, Refused}
 use Rattle.meaning.specs.Judge.{first}
-use Rattle.meaning.specs.Tally.{Tally, pairTally}
+use Rattle.meaning.specs.Tally.{pairTally}
 use Rattle.meaning.specs.Firm.{label, groups}
 use Rattle.meaning.specs.Heap.{start, piles, LawfulRun, left, weights, between, finished}
 use Rattle.meaning.proofs.Tallies.{pairTally-symmetric}
@@ -21,13 +21,12 @@ use Rattle.links.specs.Links.{tableRows}
 use Rattle.links.proofs.LinksRows.{Counted, table-counted}
 use Rattle.cutting.specs.declared.Answer.{Answer}
 use Rattle.cutting.specs.declared.Answer.the-variants.{Gave, Refused as Refused·answer}
-use Rattle.cutting.specs.declared.Thinned.{Thinned}
 use Rattle.cuts.specs.Record.{entrySize, cutsOf}
 use Rattle.replay.specs.Rows.{recordRows, entriesRows}
 use Rattle.cutting.specs.Rows.{checkingRows, groupingRows}
 use Rattle.heaps.specs.Names.{settled, written}
 use Rattle.cutting.specs.Runs.{answered, Recorded, Continued}
-use Rattle.cutting.specs.Calls.{Checking, Grouping, Thins}
+use Rattle.cutting.specs.Calls.{Checking, Grouping}
 use Rattle.heaps.proofs.Names.{written-same}
 use Rattle.cuts.proofs.Cuts.{length-cuts}
 use Rattle.cuts.proofs.Narrow.{narrow-cuts}

@@ -1,6 +1,6 @@
 -- From a judged input and its table to the call: what is promised of what was judged and of the table's tally is promised of the links.
 -- Assumes nothing.
-use Prim.Native.Nat.{ℕ, _≤_, _<_}
+use Prim.Native.Nat.{ℕ}
 use mathlib.Core.Path.{_≡_, refl, sym, _∙_, ap, subst}
 use mathlib.Core.Bool.{Bool, true}
 use mathlib.Core.List.{List, _∷_}
@@ -24,14 +24,9 @@ use Rattle.meaning.specs.Tally.{pairTally}
 use Rattle.meaning.specs.Heap.{start, left, piles, finished}
 use Rattle.meaning.specs.Firm.{label, groups}
 use Rattle.links.proofs.LinksRows.{never-both}
-use Rattle.cutting.proofs.Carried.{counts-pass, filled-counted, filled-alike, filled-small, checked-alike, checking-core, checking-stop, grouped-alike, grouping-core, grouping-stop}
+use Rattle.cutting.proofs.Carried.{counts-pass, filled-alike, filled-small, checked-alike, checking-core, checking-stop, grouped-alike, grouping-core, grouping-stop}
 
 module _ (n k : ℕ) (good : Bool) (links : List Link) (j : Judged) (judged : j ≡ first (tableRows n k good links)) where
-  pub judged-fits : j ≡ Accepted → (0 < n) × (n ≤ 128) × (k ≤ 65535)
-  judged-fits e =
-      let counted = filled-counted n k good links j judged e in
-      (counted .some-bones, counted .few-bones, counted .low-threshold)
-
   -- what the functions above the table ask of it
   pub judged-asked : Short links → j ≡ Accepted → (first (countRows n k true 0) ≡ Accepted) × Small n (filled j (replicate 16384 0) links)
   judged-asked short e = (counts-pass n k good links (sym judged ∙ e), filled-small n k good links j judged e _ refl short)

@@ -3,7 +3,7 @@
 --     checking-unique, grouping-unique, thinning-unique      the theorems
 -- Assumes nothing.
 use Prim.Native.Nat.{ℕ, _*_, _-_}
-use mathlib.Core.Path.{_≡_, refl, sym, _∙_, ap₂, subst}
+use mathlib.Core.Path.{_≡_, refl, sym, _∙_, ap₂}
 use mathlib.Core.Bool.{Bool}
 use mathlib.Core.List.{List, _++_}
 use lib.ListN.{length, take, drop, take-append-drop}
@@ -22,7 +22,7 @@ use Rattle.cuts.proofs.Same.{same-bytes}
 use Rattle.cutting.specs.declared.Answer.{Answer}
 use Rattle.cutting.specs.declared.Thinned.{Thinned}
 use Rattle.cutting.specs.Rows.{groupingRows}
-use Rattle.cutting.specs.Runs.{Recorded, Continued, Checked}
+use Rattle.cutting.specs.Runs.{Recorded, Checked}
 use Rattle.cutting.specs.Calls.{Checking, Grouping, Thins}
 use Rattle.cutting.proofs.Demands.{own, own-sound}
 

@@ -49,9 +49,6 @@ pub value-none : (c : ℕ) → (48 ≤ c → c ≤ 57 → ⊥) → (97 ≤ c →
 value-none c f g =
     ⊎-elim (λ w. absurd (f (w .0) (w .1))) (λ w. ⊎-elim (λ v. absurd (g (v .0) (v .1))) (λ v. v) w) (value-cases c)
 
-pub value-bound : (c : ℕ) → valueOf c ≤ 16
-value-bound c = ⊎-elim (λ w. omega arith) (λ w. ⊎-elim (λ v. omega arith) (λ v. omega arith) w) (value-cases c)
-
 -- a digit's value, and a value's digit
 pub value-digit : (d : ℕ) → d < 16 → valueOf (digit d) ≡ d
 unfolding digit
@@ -96,10 +93,6 @@ pair-bound c d =
     (λ w. omega (arith, w .1, ltb→lt (valueOf c) 16 (left-of (ltb (valueOf c) 16) (ltb (valueOf d) 16) (w .0)), ltb→lt (valueOf d) 16 (right-of (ltb (valueOf c) 16) (ltb (valueOf d) 16) (w .0))))
     (λ w. omega (arith, w .1))
     (chosen (ltb (valueOf c) 16 && ltb (valueOf d) 16) (valueOf c * 16 + valueOf d) 256)
-
--- a pair that means less than 10 is a 0 and a digit 0 to 9
-value-small : (c : ℕ) → valueOf c < 10 → (48 ≤ c) × (valueOf c ≡ c - 48)
-value-small c h = ⊎-elim (λ w. (w .0, w .2)) (λ w. ⊎-elim (λ v. absurd (omega arith)) (λ v. absurd (omega arith)) w) (value-cases c)
 
 -- bytes to digits and back
 pub bytesOf-hex : (bs : List ℕ) → Bytes bs → bytesOf (hex bs) ≡ bs

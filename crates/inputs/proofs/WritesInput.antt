@@ -1,6 +1,6 @@
 -- The input writer from its parts: rows 1 to 6, then rows 9 and 20; the frames around the links, then the links.
 -- Assumes nothing.
-use Prim.Native.Nat.{ℕ, suc, _+_, _*_, _/_, _≤_, _<_}
+use Prim.Native.Nat.{ℕ, _+_, _*_, _/_, _≤_, _<_}
 use mathlib.Core.Path.{_≡_, refl, sym, _∙_, ap, subst}
 use mathlib.Core.Bool.{true}
 use mathlib.Core.List.{List, [], _∷_, _++_}
@@ -18,13 +18,13 @@ use Rattle.links.proofs.LinksRows.{table-counted}
 use Rattle.cuts.specs.Record.{entrySize}
 use Rattle.replay.specs.Rows.{recordRow}
 use Rattle.lines.specs.declared.Written.{Written}
-use Rattle.lines.specs.declared.Written.the-variants.{Bytes, Refused as Refused·written}
+use Rattle.lines.specs.declared.Written.the-variants.{Bytes}
 use Rattle.reading.specs.Reader.{put}
 use Rattle.lines.specs.Kinds.{headLine, cutLines, closeLine}
 use Rattle.lines.specs.Writing.{wrote, Writes}
 use Rattle.inputs.specs.Inputs.{inputText, inputRows}
 use Rattle.placing.specs.Placing.{over}
-use Rattle.inputs.specs.Steps.{Counts, inputSize, laterRows, around, Begun, linksLeft}
+use Rattle.inputs.specs.Steps.{Counts, laterRows, around, Begun, linksLeft}
 use Rattle.placing.proofs.Writes.{length-over}
 use Rattle.lines.proofs.WritesLines.{length-head, length-cuts, length-close}
 use Rattle.inputs.proofs.WritesRows.{first-both, Later, later-accepted}

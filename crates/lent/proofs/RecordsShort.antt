@@ -10,7 +10,7 @@ use base.Fml.{Lft, Share, flft}
 use prog.Wp.{Heap}
 use ghost.Atoms.{Atoms, sem}
 use contract.Monad.{fact, factI, fact-use}
-use types.Kit.{Given, Item, Goal, Soaks, ‵, raw, given, _⊛_, Seq, _$_, move, drop, use1, split, learn, fsplit}
+use types.Kit.{Given, Item, Goal, Soaks, ‵, given, _⊛_, Seq, _$_, move, drop, use1, split, learn, fsplit}
 use denote.Laws.{Is, shows}
 use denote.Memory.{partAt, partOf, cellAt, mem}
 use denote.Index.{row, looks-slice, shuts-slice}

@@ -1,9 +1,9 @@
 -- What the laws of groups and runs come to, at runs from the start: the proofs behind the theorems.
 -- Assumes nothing.
 use Prim.Native.Nat.{ℕ, zero, suc, _+_, _≤_, _<_}
-use mathlib.Core.Path.{_≡_, refl, sym, _∙_, ap, subst}
-use mathlib.Core.Logic.{_⊎_, inl, inr, ⊎-elim, _↔_}
-use mathlib.Core.Bool.{Bool, not}
+use mathlib.Core.Path.{_≡_, sym, _∙_, subst}
+use mathlib.Core.Logic.{_⊎_, ⊎-elim, _↔_}
+use mathlib.Core.Bool.{not}
 use mathlib.Core.List.{List, [], _∷_, _++_, append-assoc, append-nil}
 use native.Mathlib.Nat.{le-antisymm}
 use native.Mathlib.Omega.{arith}
@@ -16,8 +16,8 @@ use Rattle.meaning.specs.Heap.{Heap, start, piles, Cut, LawfulRun, left,
 use Rattle.meaning.proofs.Tests.{decide, same-test}
 use Rattle.meaning.proofs.Sums.{count-most}
 use Rattle.meaning.proofs.Sets.{Same}
-use Rattle.meaning.proofs.Groups.{Together, group-intro, group-elim, group-self, group-firm, group-largest, label-in, label-least, label-same, label-group}
-use Rattle.meaning.proofs.Runs.{Reached, reached-start, reached-left, left-append, run-append, piles-left, between-left, next-cut, finished-labels, labels-finished, piles-groups, between-labels, piles-start, between-start}
+use Rattle.meaning.proofs.Groups.{group-intro, group-elim, group-self, group-firm, group-largest, label-in, label-least, label-same, label-group}
+use Rattle.meaning.proofs.Runs.{Reached, reached-start, reached-left, run-append, piles-left, between-left, next-cut, finished-labels, labels-finished, piles-groups, between-labels, piles-start, between-start}
 
 module _ (n : ℕ) (w : Tally) (k : ℕ) where
   pub largest-same : (b : ℕ) → b < n → (S : Bones) → T (S b) → T (firm n w k S)

@@ -1,19 +1,18 @@
 -- Laws of `weight`, `splits` and `firm`: the other side weighs the same, a part of a set weighs no more, and two firm sets that share a bone
 -- have a firm union.
 -- Assumes nothing.
-use Prim.Native.Nat.{ℕ, zero, suc, _+_, _≤_, _<_}
-use mathlib.Core.Path.{_≡_, refl, sym, _∙_, ap, ap₂, subst}
-use mathlib.Core.Logic.{_⊎_, inl, inr, ⊎-elim}
+use Prim.Native.Nat.{ℕ, _≤_, _<_}
+use mathlib.Core.Path.{_≡_, refl, sym, _∙_, ap₂, subst}
+use mathlib.Core.Logic.{_⊎_, ⊎-elim}
 use mathlib.Core.Bool.{Bool, true, false, not, _&&_, _||_}
 use native.Mathlib.Nat.{le-trans, le-of-eq}
-use native.Mathlib.Omega.{arith}
 use lib.Dec.{T, eqb, leb, leb→le, le→leb, nleb→lt, eqb→eq}
-use Rattle.meaning.specs.Count.{Bones, some, everySet}
-use Rattle.meaning.specs.Tally.{Tally, total, weight}
+use Rattle.meaning.specs.Count.{Bones, some}
+use Rattle.meaning.specs.Tally.{Tally, weight}
 use Rattle.meaning.specs.Firm.{splits, firm}
 use Rattle.meaning.proofs.Tests.{both, left-of, right-of, either, decide, same-test, _⇒_, imp, taut, so, _⊃_}
 use Rattle.meaning.proofs.Totals.{Symmetric, total-mono, total-ext, total-turn, total-same}
-use Rattle.meaning.proofs.Sets.{Same, some-intro, some-elim, some-same, everySet-intro, everySet-elim, everySet-fails, everySet-same, Looks}
+use Rattle.meaning.proofs.Sets.{Same, some-intro, some-elim, some-same, everySet-intro, everySet-elim, everySet-fails, Looks}
 
 -- the bones of X below n are all in Y
 abbrev pub Within : ℕ → Bones → Bones → Type 0

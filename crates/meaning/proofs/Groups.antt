@@ -1,17 +1,16 @@
 -- Laws of `group` and `label`: a group is the largest firm set of its bone, groups part the bones, and the label is the group's least bone.
 -- Assumes nothing.
-use Prim.Native.Nat.{ℕ, zero, suc, _+_, _≤_, _<_}
-use mathlib.Core.Path.{_≡_, refl, sym, _∙_, ap, ap₂, subst}
-use mathlib.Core.Logic.{_⊎_, inl, inr, ⊎-elim}
-use mathlib.Core.Bool.{Bool, true, false, not, cond, _&&_, _||_}
-use native.Mathlib.Nat.{le-refl, le-antisymm}
+use Prim.Native.Nat.{ℕ, zero, suc, _≤_, _<_}
+use mathlib.Core.Path.{_≡_, sym, ap₂, subst}
+use mathlib.Core.Logic.{_⊎_, ⊎-elim}
+use mathlib.Core.Bool.{not, _&&_}
 use native.Mathlib.Omega.{arith}
 use lib.Dec.{T, eqb, eqb→eq, eqb-refl}
-use Rattle.meaning.specs.Count.{Bones, least, someSet}
+use Rattle.meaning.specs.Count.{Bones}
 use Rattle.meaning.specs.Tally.{Tally}
 use Rattle.meaning.specs.Firm.{firm, group, label}
-use Rattle.meaning.proofs.Tests.{both, left-of, right-of, either, or-left, or-right, decide, same-test}
-use Rattle.meaning.proofs.Sets.{Same, Looks, someSet-intro, someSet-elim, least-in, least-same}
+use Rattle.meaning.proofs.Tests.{both, left-of, right-of, or-left, or-right, decide, same-test}
+use Rattle.meaning.proofs.Sets.{Looks, someSet-intro, someSet-elim, least-in, least-same}
 use Rattle.meaning.proofs.Firm.{Within, _∪_, firm-same, firm-lone, firm-union}
 
 module _ (n : ℕ) (w : Tally) (k : ℕ) where

@@ -1,21 +1,21 @@
 -- Laws of one lawful cut: names stay the piles' least bones, no firm set is divided, one pile more stands, and the tally between piles
 -- grows by the cut's weight.
 -- Assumes nothing.
-use Prim.Native.Nat.{ℕ, zero, suc, _+_, _≤_, _<_, zero-le}
+use Prim.Native.Nat.{ℕ, _+_, _≤_, _<_, zero-le}
 use mathlib.Core.Path.{_≡_, refl, sym, _∙_, ap, ap₂, subst}
 use mathlib.Core.Logic.{_⊎_, inl, inr, ⊎-elim}
-use mathlib.Core.Bool.{Bool, true, false, not, cond, _&&_, _||_, Bool·beq}
-use native.Mathlib.Nat.{le-refl, le-trans, le-of-eq}
+use mathlib.Core.Bool.{Bool, not, cond, _&&_, _||_}
+use native.Mathlib.Nat.{le-trans, le-of-eq}
 use native.Mathlib.Omega.{arith}
 use lib.Dec.{T, eqb, ltb, eqb→eq, ltb→lt, lt→ltb, T-not, not-T}
-use Rattle.meaning.specs.Count.{Bones, some, least, count, sum}
+use Rattle.meaning.specs.Count.{Bones, least, count, sum}
 use Rattle.meaning.specs.Tally.{Tally, total, weight}
 use Rattle.meaning.specs.Firm.{firm}
 use Rattle.meaning.specs.Heap.{Heap, start, pile, stands, piles, Cut, Lawful, parted, between}
-use Rattle.meaning.proofs.Tests.{both, left-of, right-of, either, decide, is-true, is-false, same-test, eq→eqb, ne→neqb, neqb→ne, taut, so, _⊃_, _⇒_, imp}
-use Rattle.meaning.proofs.Sums.{sum-ext, sum-add, sum-one, sum-zero, count-same, count-most}
-use Rattle.meaning.proofs.Totals.{Pairs, parts, Symmetric, total-parts, total-turn, total-ext, total-pair}
-use Rattle.meaning.proofs.Sets.{Same, some-elim, some-intro, least-in}
+use Rattle.meaning.proofs.Tests.{both, left-of, right-of, decide, is-true, is-false, same-test, eq→eqb, ne→neqb, neqb→ne, taut, so, _⊃_, _⇒_, imp}
+use Rattle.meaning.proofs.Sums.{sum-ext, sum-add, sum-one}
+use Rattle.meaning.proofs.Totals.{parts, Symmetric, total-parts, total-turn, total-pair}
+use Rattle.meaning.proofs.Sets.{some-elim, least-in}
 use Rattle.meaning.proofs.Firm.{Within, firm-parts, firm-elim, splits-intro}
 
 -- ---- piles

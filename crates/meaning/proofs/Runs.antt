@@ -1,25 +1,25 @@
 -- Laws of runs of lawful cuts: what every run keeps, how it goes on, and where it ends.
 -- Assumes nothing.
-use Prim.Native.Nat.{ℕ, zero, suc, _+_, _≤_, _<_, zero-le}
-use mathlib.Core.Path.{_≡_, refl, sym, _∙_, ap, ap₂, subst}
+use Prim.Native.Nat.{ℕ, suc, _+_, _<_}
+use mathlib.Core.Path.{_≡_, refl, sym, _∙_, ap, ap₂}
 use mathlib.Core.Logic.{_⊎_, inl, inr, ⊎-elim}
-use mathlib.Core.Bool.{Bool, true, false, not, cond, _&&_, _||_}
+use mathlib.Core.Bool.{Bool, false, not, cond, _&&_, _||_}
 use mathlib.Core.List.{List, [], _∷_, _++_}
-use native.Mathlib.Nat.{le-refl, le-trans, le-of-eq, add-zero, add-assoc}
+use native.Mathlib.Nat.{le-trans, le-of-eq}
 use native.Mathlib.Omega.{arith}
-use lib.Dec.{T, eqb, ltb, eqb→eq, eqb-refl, lt→ltb, T-not}
+use lib.Dec.{T, eqb, ltb, eqb→eq, lt→ltb}
 use lib.ListN.{length}
-use Rattle.meaning.specs.Count.{Bones, some, every, least, count, sum}
-use Rattle.meaning.specs.Tally.{Tally, total, weight}
+use Rattle.meaning.specs.Count.{Bones, count}
+use Rattle.meaning.specs.Tally.{Tally, weight}
 use Rattle.meaning.specs.Firm.{splits, firm, group, label, groups}
 use Rattle.meaning.specs.Heap.{Heap, start, pile, stands, piles, Cut, Lawful, parted, LawfulRun, left, weights, between, finished}
-use Rattle.meaning.proofs.Tests.{both, left-of, right-of, either, decide, is-true, is-false, same-test, eq→eqb, taut, so, _⊃_}
-use Rattle.meaning.proofs.Sums.{sum-ext, sum-zero, sum-one, count-same, count-most}
+use Rattle.meaning.proofs.Tests.{both, left-of, decide, is-true, same-test, eq→eqb, taut, so, _⊃_}
+use Rattle.meaning.proofs.Sums.{sum-ext, sum-one, count-same}
 use Rattle.meaning.proofs.Totals.{Symmetric, total-ext, total-none}
-use Rattle.meaning.proofs.Sets.{Same, some-intro, every-intro, every-elim, every-fails, least-is}
-use Rattle.meaning.proofs.Firm.{Within, other, Parted, splits-elim, splits-other, weight-other, weight-inside, firm-fails, firm-same}
-use Rattle.meaning.proofs.Groups.{group-intro, group-largest, group-firm, group-self, label-same, label-group, label-bone, label-in}
-use Rattle.meaning.proofs.Heaps.{pile-intro, pile-bone, pile-name, Named, Whole, named-start, whole-start, named-stands, named-parted, whole-parted, piles-parted, between-parted}
+use Rattle.meaning.proofs.Sets.{some-intro, every-intro, every-elim, every-fails, least-is}
+use Rattle.meaning.proofs.Firm.{other, splits-elim, splits-other, weight-other, weight-inside, firm-fails, firm-same}
+use Rattle.meaning.proofs.Groups.{group-largest, group-firm, group-self, label-same, label-group}
+use Rattle.meaning.proofs.Heaps.{pile-intro, pile-name, Named, Whole, named-start, whole-start, named-stands, named-parted, whole-parted, piles-parted, between-parted}
 
 module _ (n : ℕ) (w : Tally) (k : ℕ) where
   -- what every heap that lawful cuts reach has: names are least bones, and no firm set is divided

@@ -1,14 +1,14 @@
 -- Laws of `some`, `every`, `least`, `someSet` and `everySet`: each test passes exactly if what it tries is there.
 -- Assumes nothing.
-use Prim.Native.Nat.{ℕ, zero, suc, _+_, _≤_, _<_, zero-le, suc-le-suc}
+use Prim.Native.Nat.{ℕ, zero, suc, _≤_, _<_, zero-le, suc-le-suc}
 use mathlib.Core.Path.{_≡_, refl, sym, _∙_, ap, ap₂, subst}
-use mathlib.Core.Logic.{_⊎_, inl, inr, ⊎-elim}
+use mathlib.Core.Logic.{_⊎_, ⊎-elim}
 use mathlib.Core.Bool.{Bool, true, false, cond, not, _&&_, _||_}
-use native.Mathlib.Nat.{le-refl, le-trans, le-of-suc-le-suc, eq-or-lt-of-le, not-suc-le-zero, le-antisymm}
+use native.Mathlib.Nat.{le-refl, le-of-suc-le-suc, eq-or-lt-of-le, not-suc-le-zero, le-antisymm}
 use native.Mathlib.Omega.{arith}
-use lib.Dec.{T, eqb, T-not, not-T}
+use lib.Dec.{T, eqb, T-not}
 use Rattle.meaning.specs.Count.{Bones, some, every, least, someSet, everySet}
-use Rattle.meaning.proofs.Tests.{both, left-of, right-of, either, or-left, or-right, decide, is-true, is-false, eq→eqb, ne→neqb, same-test, taut, so, _⊃_}
+use Rattle.meaning.proofs.Tests.{both, left-of, right-of, either, or-left, or-right, decide, is-false, eq→eqb, same-test, taut, so, _⊃_}
 
 -- two sets with the same bones below n
 abbrev pub Same : ℕ → Bones → Bones → Type 0

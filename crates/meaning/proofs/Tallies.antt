@@ -1,13 +1,13 @@
 -- Laws of `pairTally`: all that proofs above may know of rule 1.
 -- Assumes nothing.
 use Prim.Native.Nat.{ℕ, _+_}
-use mathlib.Core.Path.{_≡_, refl, sym, _∙_, ap, ap₂}
+use mathlib.Core.Path.{_≡_, refl, ap, ap₂}
 use mathlib.Core.Bool.{Bool, true, false, cond, _&&_, _||_}
 use mathlib.Core.List.{List, [], _∷_, _++_}
 use native.Mathlib.Omega.{arith}
 use lib.Dec.{eqb}
 use Rattle.meaning.specs.declared.Link.{Link}
-use Rattle.meaning.specs.Tally.{Tally, Symmetric, joins, pairTally}
+use Rattle.meaning.specs.Tally.{Symmetric, joins, pairTally}
 
 joins-turned : (l : Link) (i j : ℕ) → joins l i j ≡ joins l j i
 unfolding joins

@@ -1,11 +1,10 @@
 -- Tests as facts: the connectives, deciding a test, and `taut`, which proves a test of any number of Bools by trying them all.
 -- Assumes nothing.
-use Prim.Native.Nat.{ℕ, zero, suc, _≤_, _<_}
-use mathlib.Core.Path.{_≡_, refl, sym, ap, subst}
+use Prim.Native.Nat.{ℕ, zero, suc}
+use mathlib.Core.Path.{_≡_, refl, sym, subst}
 use mathlib.Core.Logic.{_⊎_, inl, inr}
 use mathlib.Core.Bool.{Bool, true, false, not, _&&_, _||_}
-use native.Mathlib.Decide.{ℕ-discrete}
-use lib.Dec.{T, eqb, leb, ltb, eqb→eq, eqb-refl, leb→le, le→leb, lt→ltb, ltb→lt, nleb→lt, nltb→le, T-not, not-T}
+use lib.Dec.{T, eqb, eqb→eq, eqb-refl, leb→le, ltb→lt, nleb→lt, nltb→le, T-not, not-T}
 
 infixr 25 _⇒_
 abbrev pub _⇒_ : Bool → Bool → Bool

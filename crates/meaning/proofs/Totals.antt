@@ -1,8 +1,8 @@
 -- Laws of `total`, the one measure of which weights, attachments and the tally between piles are made. Each asks for a test at every two
 -- bones below n, which `taut` proves by trying the Bools.
 -- Assumes nothing.
-use Prim.Native.Nat.{ℕ, zero, suc, _+_, _≤_, _<_, zero-le}
-use mathlib.Core.Path.{_≡_, refl, sym, _∙_, ap, ap₂, subst}
+use Prim.Native.Nat.{ℕ, _+_, _≤_, _<_, zero-le}
+use mathlib.Core.Path.{_≡_, refl, sym, _∙_, ap, ap₂}
 use mathlib.Core.Bool.{Bool, true, false, cond, not, _&&_, _||_, Bool·beq}
 use native.Mathlib.Nat.{le-refl, le-trans, le-of-eq}
 use native.Mathlib.Omega.{arith}
@@ -53,14 +53,6 @@ module _ (n : ℕ) (w : Tally) where
       sum-ext n _ _
       (λ i hi. sum-ext n _ _ (λ j hj. cond-parts (R i j) (P i j) (Q i j) (w i j) (t i j hi hj)) ∙ sum-add n _ _)
       ∙ sum-add n _ _
-
-  pub total-cover : (R P Q : Pairs) → ((i j : ℕ) → i < n → j < n → T (R i j ⇒ P i j || Q i j)) → total n w R ≤ total n w P + total n w Q
-  unfolding total
-  total-cover R P Q t =
-      le-trans
-      (sum-mono n _ _
-      (λ i hi. le-trans (sum-mono n _ _ (λ j hj. cond-cover (R i j) (P i j) (Q i j) (w i j) (t i j hi hj))) (le-of-eq (sum-add n _ _))))
-      (le-of-eq (sum-add n _ _))
 
   -- one pair that passes weighs no more than all
   pub total-pair : (P : Pairs) (i j : ℕ) → i < n → j < n → T (P i j) → w i j ≤ total n w P

@@ -13,9 +13,8 @@ use borrow.Author.Tests.{eqb-true, eqb-false}
 use Rattle.meaning.specs.declared.Link.{Link}
 use Rattle.meaning.specs.declared.Judged.the-variants.{Accepted}
 use Rattle.meaning.specs.Judge.{first}
-use Rattle.meaning.specs.Count.{Bones}
-use Rattle.meaning.specs.Tally.{joins, pairTally, weight}
-use Rattle.meaning.proofs.Totals.{Symmetric, total-same}
+use Rattle.meaning.specs.Tally.{joins, pairTally}
+use Rattle.meaning.proofs.Totals.{Symmetric}
 use Rattle.links.specs.Links.{tableRows}
 use Rattle.pairs.specs.Table.{spot, held, raised, added, tallied}
 use Rattle.links.proofs.LinksRows.{Propers, propers-more, table-counted, table-proper}
@@ -89,9 +88,3 @@ holds s e n k good links accepted short i j hi hj =
 
 pub table-holds : (n k : ℕ) (good : Bool) (links : List Link) → first (tableRows n k good links) ≡ Accepted → Short links → (i j : ℕ) → i < n → j < n → held (tallied (replicate 16384 0) links) i j ≡ pairTally links i j
 table-holds = holds 16384 refl
-
--- so every weight by that table is the weight by the links
-pub table-weighs : (n k : ℕ) (good : Bool) (links : List Link) → first (tableRows n k good links) ≡ Accepted → Short links → (S A : Bones) → weight n (held (tallied (replicate 16384 0) links)) S A ≡ weight n (pairTally links) S A
-unfolding weight
-table-weighs n k good links accepted short S A =
-    total-same n _ (pairTally links) _ _ (table-holds n k good links accepted short) (λ i j hi hj. refl)

@@ -9,7 +9,7 @@ use lib.Dec.{leb, leb→le, nleb→lt}
 use lib.ListN.{length, getD, length-set}
 use lib.Seq.{getD-set-same, getD-set-other, ext-getD}
 use Rattle.meaning.proofs.Tests.{decide}
-use Rattle.pairs.specs.Table.{spot, held, raised, lowered}
+use Rattle.pairs.specs.Table.{spot, held, raised}
 use Rattle.pairs.proofs.TableSpots.{spot-below, one-pair}
 
 module _ (t : List ℕ) (a b x : ℕ) where
@@ -17,27 +17,15 @@ module _ (t : List ℕ) (a b x : ℕ) where
   unfolding raised
   length-raised = simp length-set
 
-  pub length-lowered : length (lowered t a b x) ≡ length t
-  unfolding lowered raised
-  length-lowered = simp length-set
-
   -- at the pair
   pub held-raised : length t ≡ 16384 → a < 128 → b < 128 → held (raised t a b x) a b ≡ (held t a b + x) % 2 ^ 32
   unfolding held raised
   held-raised long ha hb = getD-set-same t (spot a b) _ 0 (omega (arith, spot-below a b ha hb))
 
-  pub held-lowered : length t ≡ 16384 → a < 128 → b < 128 → held (lowered t a b x) a b ≡ (held t a b + (2 ^ 32 - x)) % 2 ^ 32
-  unfolding held lowered raised
-  held-lowered long ha hb = getD-set-same t (spot a b) _ 0 (omega (arith, spot-below a b ha hb))
-
   -- at any other place
   pub raised-elsewhere : (y : ℕ) → (y ≡ spot a b → ⊥) → getD (raised t a b x) y 0 ≡ getD t y 0
   unfolding raised
   raised-elsewhere y n = getD-set-other t (spot a b) y _ 0 n
-
-  pub lowered-elsewhere : (y : ℕ) → (y ≡ spot a b → ⊥) → getD (lowered t a b x) y 0 ≡ getD t y 0
-  unfolding lowered raised
-  lowered-elsewhere y n = getD-set-other t (spot a b) y _ 0 n
 
   -- so every other pair's tally is as it was
   module _ {i j : ℕ} (ha : a < 128) (hb : b < 128) (hi : i < 128) (hj : j < 128) (straight : (i ≡ a) × (j ≡ b) → ⊥) (turned : (i ≡ b) × (j ≡ a) → ⊥) where
@@ -47,10 +35,6 @@ module _ (t : List ℕ) (a b x : ℕ) where
     pub held-raised-apart : held (raised t a b x) i j ≡ held t i j
     unfolding held
     held-raised-apart = raised-elsewhere (spot i j) apart
-
-    pub held-lowered-apart : held (lowered t a b x) i j ≡ held t i j
-    unfolding held
-    held-lowered-apart = lowered-elsewhere (spot i j) apart
 
 -- two tables that hold the same, and have the same where no pair's tally stands, are one
 pub same-table : (t t′ : List ℕ) → length t ≡ 16384 → length t′ ≡ 16384 → ((i j : ℕ) → i < 128 → j < 128 → held t i j ≡ held t′ i j) → ((y : ℕ) → ((i j : ℕ) → i < 128 → j < 128 → spot i j ≡ y → ⊥) → getD t y 0 ≡ getD t′ y 0) → t ≡ t′

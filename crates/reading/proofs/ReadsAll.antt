@@ -112,9 +112,3 @@ module _ (text : List ℕ) (links : List Link) (space : List ℕ) (r : Reading) 
 
   pub reads-so : Reads text links (take (linksOf r) (linksIn (linesOf text)) ++ drop (linksOf r) links) space (take (cutsHeld r * entrySize) (entriesIn (linesOf text)) ++ drop (cutsHeld r * entrySize) space) r
   reads-so = record { answer = e; links-left = held .links-put; record-left = held .cuts-put }
-
--- the reader's promise leaves no choice: the answer and both rooms follow from the text and the rooms lent
-pub reads-once : (text : List ℕ) (links links₁ links₂ : List Link) (space space₁ space₂ : List ℕ) (r₁ r₂ : Reading)
-    → Reads text links links₁ space space₁ r₁ → Reads text links links₂ space space₂ r₂ → (r₁ ≡ r₂) × (links₁ ≡ links₂) × (space₁ ≡ space₂)
-reads-once text links links₁ links₂ space space₁ space₂ r₁ r₂ p q =
-    (p .answer ∙ sym (q .answer), p .links-left ∙ sym (q .links-left), p .record-left ∙ sym (q .record-left))

@@ -4,22 +4,20 @@ use Prim.Native.Nat.{ℕ, zero, suc, _+_, _*_, _-_, _≤_, _<_}
 use mathlib.Core.Path.{_≡_, refl, sym, _∙_, ap, ap₂, subst}
 use mathlib.Core.Logic.{_⊎_, inl, inr, ⊎-elim}
 use mathlib.Core.List.{List, [], _∷_, _++_, append-assoc, append-nil}
-use native.Mathlib.Nat.{zero-add}
 use native.Mathlib.Numerals.{add-one}
 use native.Mathlib.Omega.{arith}
 use lib.Dec.{T}
-use lib.ListN.{length, getD, set, take, drop, length-append, length-take, length-drop, length-set, take-append-drop}
+use lib.ListN.{length, getD, set, take, drop, length-append, length-drop, take-append-drop}
 use lib.Seq.{length-take-le, take-all, drop-cons, append-snoc, take-at, drop-at, drop-drop, set-split}
 use Rattle.meaning.specs.declared.Link.{Link}
 use Rattle.stored.specs.Records.{noLink}
 use Rattle.cuts.specs.Record.{entrySize}
 use Rattle.reading.specs.Lines.{Line, linesOf}
-use Rattle.reading.specs.Reader.{linkIn, entryIn, linksIn, entriesIn}
+use Rattle.reading.specs.Reader.{linksIn, entriesIn}
 use Rattle.reading.specs.Walk.{byteAt, sizeAt, Well}
 use Rattle.reading.specs.Judging.{allWell}
 use Rattle.reading.specs.Storing.{Skipped, payloadAt, linkAt, LinkAhead, LinkPast, Storable}
-use Rattle.reading.proofs.Lines.{front}
-use Rattle.reading.proofs.Judging.{rest, rest-at}
+use Rattle.reading.proofs.Judging.{rest-at}
 use Rattle.reading.proofs.ReadsText.{links-front, link-front, entries-front}
 use Rattle.reading.proofs.ReadsStore.{entry-payload, payload-length, skip-links, skip-entries, skipped-well, skipped-kind, skipped-rest}
 

@@ -15,7 +15,7 @@ use Rattle.frames.specs.Frame.{payloads, isKind, byteSum, isHex, bytesOf}
 use Rattle.frames.specs.Characters.{pairOf, kindOf, feedAt}
 use Rattle.reading.specs.Walk.{byteAt, digitsAt, sizeAt, Well, SizeFound, Summed, Found}
 use Rattle.frames.proofs.Frames.{chosen, pair-bound, sum-snoc, sum-bound}
-use Rattle.frames.proofs.Characters.{payload-most, kind-bounds, bounds-kind, feed-told}
+use Rattle.frames.proofs.Characters.{kind-bounds, bounds-kind, feed-told}
 use Rattle.reading.proofs.Lines.{bytesOf-snoc, hex-snoc, hex-at, pair-digits-at, pair-byte-at, byteAt-bound}
 
 -- the first i pairs are digits, and the bytes that they mean have that sum
@@ -80,10 +80,6 @@ sum-broken cs size i sum bad w h = record { none = λ n. w .broken h; digits = �
 pub size-least : (cs : List ℕ) → 2 ≤ sizeAt cs
 unfolding sizeAt
 size-least cs = omega arith
-
-pub size-most : (cs : List ℕ) → sizeAt cs ≤ 23
-unfolding sizeAt
-size-most cs = omega (arith, payload-most (byteAt cs 0))
 
 -- how many bytes a frame has, by its kind
 pub size-of : (cs : List ℕ) (k : ℕ) → byteAt cs 0 ≡ k → sizeAt cs ≡ getD payloads k 0 + 2

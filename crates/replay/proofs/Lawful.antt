@@ -1,16 +1,15 @@
 -- Rows 10 to 13 and lawful cuts: the rows accept an entry exactly if its cut is lawful, they accept a record exactly if it is a lawful run,
 -- and a refusal's place is the first entry that is not lawful.
 -- Assumes nothing.
-use Prim.Native.Nat.{ℕ, zero, suc, _+_, _*_, _-_, _/_, _%_, _^_, _≤_, _<_, min}
+use Prim.Native.Nat.{ℕ, suc, _+_, _-_, _/_, _%_, _≤_, _<_, min}
 use mathlib.Core.Path.{_≡_, refl, sym, _∙_, ap, subst}
 use mathlib.Core.Logic.{⊎-elim}
-use mathlib.Core.Bool.{Bool, true, false, cond, not, _&&_, _||_}
+use mathlib.Core.Bool.{Bool, true, false, not, _&&_, _||_}
 use mathlib.Core.List.{List, [], _∷_, _++_}
-use native.Mathlib.Nat.{zero-div}
 use native.Mathlib.Numerals.{add-one}
 use native.Mathlib.Omega.{arith}
-use lib.Dec.{T, eqb, ltb, T-not, not-T, ltb→lt, nltb→le}
-use lib.ListN.{length, take, drop, replicate, List·getD-eq-default, length-take, length-replicate}
+use lib.Dec.{T, T-not, not-T}
+use lib.ListN.{length}
 use borrow.Author.Tests.{lt-ltb, le-ltb, eq-eqb, ne-eqb, le-leb, lt-leb, leb-false, eqb-true, not-false}
 use Rattle.meaning.specs.declared.Judged.{Judged}
 use Rattle.meaning.specs.declared.Judged.the-variants.{Accepted, Refused}
@@ -21,9 +20,8 @@ use Rattle.meaning.specs.Heap.{Heap, start, Cut, Lawful, LawfulRun, parted, pil
 use Rattle.meaning.proofs.Tests.{both, left-of, right-of, decide, holds, fails, is-true, is-false, taut, so, _⊃_}
 use Rattle.meaning.proofs.Sets.{some-intro, some-elim}
 use Rattle.meaning.proofs.Heaps.{pile-bone}
-use Rattle.pairs.specs.Side.{sideOf}
-use Rattle.cuts.specs.Record.{entrySize, cutsIn, cutsOf}
-use Rattle.cuts.proofs.Narrow.{Narrow, Narrows, narrow-cuts}
+use Rattle.cuts.specs.Record.{entrySize, cutsOf}
+use Rattle.cuts.proofs.Narrow.{Narrow, Narrows}
 use Rattle.replay.specs.Rows.{astray, entryRows, entriesRows, recordRow, recordRows}
 use Rattle.links.proofs.LinksRows.{never-both, first-accepted, first-refused, accepted-left, accepted-right}
 

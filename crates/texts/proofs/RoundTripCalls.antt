@@ -1,21 +1,21 @@
 -- The round trips over the promises of the reader and the input writer.
 -- Assumes nothing.
-use Prim.Native.Nat.{ℕ, zero, suc, _+_, _*_, _-_, _/_, _%_, _≤_, _<_}
+use Prim.Native.Nat.{ℕ, _+_, _*_, _-_, _/_, _%_, _≤_}
 use mathlib.Core.Path.{_≡_, refl, sym, _∙_, ap, ap₂, subst}
-use mathlib.Core.Bool.{Bool, true, false, not, _||_}
-use mathlib.Core.List.{List, [], _∷_, _++_}
+use mathlib.Core.Bool.{true, not, _||_}
+use mathlib.Core.List.{List, [], _++_}
 use native.Mathlib.Omega.{arith}
-use borrow.Author.Tests.{le-ltb, ltb-false, eqb-true, not-false}
+use borrow.Author.Tests.{le-ltb}
 use lib.Dec.{T, eqb, ltb, nltb→le, eqb→eq}
-use lib.ListN.{length, take, drop, length-append}
-use lib.Seq.{take-append-seam, take-at}
+use lib.ListN.{length, take, drop}
+use lib.Seq.{take-append-seam}
 use Rattle.meaning.specs.declared.Link.{Link}
 use Rattle.meaning.specs.declared.Judged.{Judged}
 use Rattle.meaning.specs.declared.Judged.the-variants.{Accepted, Refused}
-use Rattle.meaning.specs.Judge.{refuse, first}
-use Rattle.meaning.proofs.Tests.{fails, decide, taut, so, _⊃_}
+use Rattle.meaning.specs.Judge.{first}
+use Rattle.meaning.proofs.Tests.{fails, taut, so, _⊃_}
 use Rattle.links.specs.Links.{countRows, linksRows, tableRows}
-use Rattle.links.proofs.LinksRows.{first-accepted, accepted-left, accepted-right, Counted, counts-accepted}
+use Rattle.links.proofs.LinksRows.{first-accepted, accepted-left, accepted-right, counts-accepted}
 use Rattle.cuts.specs.Record.{entrySize}
 use Rattle.replay.specs.Rows.{recordRow}
 use Rattle.reading.specs.declared.Reading.{Reading}

@@ -2,7 +2,7 @@
 -- Assumes nothing.
 use Prim.Native.Nat.{ℕ, zero, suc, _+_, _*_, _/_, _%_, _≤_, _<_}
 use mathlib.Core.Path.{_≡_, refl, sym, _∙_, ap, ap₂, subst}
-use mathlib.Core.Logic.{_⊎_, inl, inr, ⊎-elim}
+use mathlib.Core.Logic.{_⊎_, ⊎-elim}
 use mathlib.Core.Bool.{Bool, true, false, cond, not, _&&_, _||_}
 use mathlib.Core.List.{List, [], _∷_, _++_, append-assoc, append-nil}
 use native.Mathlib.Omega.{arith}
@@ -10,9 +10,8 @@ use lib.Dec.{T, eqb, eqb→eq, T-not}
 use lib.ListN.{length, getD, take, drop, length-append, length-drop}
 use lib.Seq.{drop-cons, length-take-le, take-at, drop-at}
 use Rattle.meaning.specs.declared.Link.{Link}
-use Rattle.meaning.specs.declared.Judged.{Judged}
-use Rattle.meaning.specs.declared.Judged.the-variants.{Accepted, Refused}
-use Rattle.meaning.specs.Judge.{refuse, first}
+use Rattle.meaning.specs.declared.Judged.the-variants.{Accepted}
+use Rattle.meaning.specs.Judge.{first}
 use Rattle.meaning.proofs.Tests.{left-of, right-of, either, eq→eqb, neqb→ne, is-true, is-false, decide, taut, so, _⊃_}
 use Rattle.cuts.specs.Record.{entrySize}
 use Rattle.frames.specs.Frame.{payloads, byteSum, line, wellFormed}

@@ -1,13 +1,12 @@
 -- What the input writer writes is read back: the lines of an input text, what is read from them, and that no row refuses them.
 -- Assumes nothing.
 use Prim.Native.Nat.{ℕ, zero, suc, _+_, _*_, _/_, _%_, _≤_, _<_}
-use mathlib.Core.Path.{_≡_, refl, sym, _∙_, ap, ap₂, subst}
-use mathlib.Core.Bool.{Bool, true, false, cond, not, _&&_, _||_}
+use mathlib.Core.Path.{_≡_, refl, sym, _∙_, ap, ap₂}
 use mathlib.Core.List.{List, [], _∷_, _++_, append-assoc, append-nil}
 use native.Mathlib.Omega.{arith}
 use lib.Dec.{T, eqb}
 use lib.ListN.{length, getD, take, drop, length-drop}
-use lib.Seq.{length-take-le, take-all, take-add, take-at, drop-at}
+use lib.Seq.{length-take-le, take-all, take-add, take-at}
 use Rattle.meaning.specs.declared.Link.{Link}
 use Rattle.meaning.specs.declared.Judged.the-variants.{Accepted}
 use Rattle.meaning.specs.Judge.{refuse, first}
@@ -16,13 +15,12 @@ use Rattle.cuts.specs.Record.{entrySize}
 use Rattle.frames.specs.Frame.{isKind, line}
 use Rattle.stages.specs.declared.stage.Stage.{Stage}
 use Rattle.stages.specs.declared.stage.Stage.the-variants.{Opening, Linking, Cutting, Closed}
-use Rattle.reading.specs.Lines.{Line, linesOf, frame, kind, pair, lineRows}
+use Rattle.reading.specs.Lines.{Line, linesOf, pair, lineRows}
 use Rattle.stages.specs.Stages.{follows, after, open-at}
 use Rattle.reading.specs.Reader.{linkIn, linksIn, entryIn, entriesIn, bonesIn, thresholdIn}
 use Rattle.lines.specs.Kinds.{two, headLine, linkLine, linkLines, cutLines, closeLine}
 use Rattle.inputs.specs.Inputs.{inputText}
 use Rattle.meaning.specs.Bytes.{Bytes}
-use Rattle.frames.proofs.Frames.{whole}
 use Rattle.texts.proofs.RoundTripLines.{lineOf, first-line, frame-is, kind-is, pair-is, row-passed, not-not}
 
 -- runs of bytes

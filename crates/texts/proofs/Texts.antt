@@ -1,7 +1,7 @@
 -- The theorems about texts, over all inputs, each closed by a citation.
 -- A link's bones are below 256 and its tally below 65,536 (`Smalls`), and a run of bytes holds bytes (`Bytes`), as their types in code have it.
 -- Assumes nothing.
-use Prim.Native.Nat.{ℕ, _+_, _*_, _/_, _%_, _≤_, _<_}
+use Prim.Native.Nat.{ℕ, _+_, _*_, _/_, _≤_}
 use mathlib.Core.Path.{_≡_, sym, _∙_}
 use mathlib.Core.List.{List, _++_}
 use lib.Dec.{T}
@@ -15,7 +15,7 @@ use Rattle.reading.specs.declared.Reading.{Reading}
 use Rattle.reading.specs.declared.Reading.the-variants.{Got}
 use Rattle.lines.specs.declared.Written.{Written}
 use Rattle.lines.specs.declared.Written.the-variants.{Bytes as Wrote}
-use Rattle.reading.specs.Lines.{linesOf, lineRows}
+use Rattle.reading.specs.Lines.{linesOf}
 use Rattle.reading.specs.Reader.{linksIn, entriesIn, bonesIn, thresholdIn, readerRows, Reads}
 use Rattle.lines.specs.Writing.{Writes}
 use Rattle.inputs.specs.Inputs.{inputText, inputRows}

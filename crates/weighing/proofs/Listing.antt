@@ -42,10 +42,6 @@ pub listed-place : (xs : List ℕ) (m b : ℕ) → T (listed xs m b) → (i : �
 unfolding listed
 listed-place xs m b t = let r = some-elim m (λ i. eqb (getD xs i 0) b) t in (r .0, r .1, eqb→eq (getD xs (r .0) 0) b (r .2))
 
-pub listed-none : (xs : List ℕ) (b : ℕ) → T (not (listed xs 0 b))
-unfolding listed some
-listed-none xs b = tt
-
 -- a set with one bone more
 abbrev pub with-one : Bones → ℕ → Bones
 with-one R c b = R b || eqb c b

@@ -9,7 +9,7 @@ use native.Mathlib.Omega.{arith}
 use lib.Dec.{T, eqb, ltb, eqb→eq, eqb-refl, ltb→lt, lt→ltb, not-T}
 use lib.ListN.{length, getD, set, replicate}
 use lib.Seq.{getD-set-same, getD-set-other}
-use Rattle.meaning.specs.Count.{Bones, sum, some}
+use Rattle.meaning.specs.Count.{Bones, some}
 use Rattle.meaning.specs.Tally.{Tally, weight}
 use Rattle.meaning.specs.Heap.{Heap, Cut, Lawful, pile, stands}
 use Rattle.meaning.proofs.Tests.{taut, so, _⊃_, both, left-of, right-of, decide, is-true, is-false, same-test, eq→eqb, neqb→ne, ne→neqb}

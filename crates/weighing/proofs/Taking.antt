@@ -11,7 +11,7 @@ use lib.Dec.{T, eqb, eqb→eq, eqb-refl, T-not}
 use Rattle.meaning.specs.Count.{Bones, sum}
 use Rattle.meaning.specs.Tally.{Tally, total, weight}
 use Rattle.meaning.proofs.Tests.{_⇒_, imp, taut, so, _⊃_, decide, same-test, both, left-of, right-of, or-left, or-right, neqb→ne, ne→neqb}
-use Rattle.meaning.proofs.Sums.{sum-ext, sum-add, sum-one, sum-zero, sum-at}
+use Rattle.meaning.proofs.Sums.{sum-ext, sum-add, sum-zero, sum-at}
 use Rattle.meaning.proofs.Totals.{Pairs, parts, Symmetric, total-mono, total-parts, total-ext}
 use Rattle.meaning.proofs.Firm.{other, weight-other, weight-within}
 use Rattle.weighing.specs.Scan.{Tied}

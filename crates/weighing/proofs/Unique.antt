@@ -1,14 +1,14 @@
 -- What the promises of the search and of the degrees settle: two answers that both keep one are equal. Of a search, whether there is a light split and in
 -- which pile; which split of that pile is free.
 -- Assumes nothing.
-use Prim.Native.Nat.{ℕ, _+_, _%_, _^_, _≤_, _<_}
-use mathlib.Core.Path.{_≡_, refl, sym, _∙_, ap, subst}
+use Prim.Native.Nat.{ℕ, _≤_, _<_}
+use mathlib.Core.Path.{_≡_, refl, sym, _∙_}
 use mathlib.Core.Logic.{⊎-elim}
 use mathlib.Core.Bool.{Bool, true, false}
 use mathlib.Core.List.{List}
 use native.Mathlib.Omega.{arith}
-use lib.Dec.{T, ltb, ltb→lt, nltb→le}
-use lib.ListN.{length, getD}
+use lib.Dec.{ltb, ltb→lt, nltb→le}
+use lib.ListN.{length}
 use lib.Seq.{ext-getD}
 use Rattle.meaning.specs.Bytes.{Bytes}
 use Rattle.meaning.specs.Tally.{Tally}

@@ -3,11 +3,10 @@ use pairs::numbers::bone;
 ghost use mathlib.Core.Path.{_≡_};
 ghost use mathlib.Core.Bool.{cond};
 ghost use Prim.Native.Nat.{ℕ, _+_, _-_, _<_, _≤_};
-ghost use lib.Dec.{T};
 ghost use lib.ListN.{length, getD};
 ghost use Rattle.meaning.specs.Heap.{pile};
 ghost use Rattle.pairs.specs.Side.{heapOf};
-ghost use Rattle.weighing.specs.Lists.{listed, Once, swapped, marked};
+ghost use Rattle.weighing.specs.Lists.{listed, Once, swapped};
 ghost use Rattle.weighing.specs.Merge.{unmarked, Laid};
 
 // 1 where bone b is in the pile, else 0.

@@ -4,7 +4,6 @@ use mathlib.Core.Path.{_≡_, _∙_, ap₂}
 use native.Mathlib.Omega.{arith}
 use borrow.Author.Needs.{needs}
 use denote.Ref.{now}
-use Rattle.meaning.specs.declared.Link.{Link}
 use Rattle.pairs.specs.Table.{added}
 use Rattle.lent.proofs.add_record.Statement.{statement}
 use Rattle.lent.proofs.add_record.Tie as tie

@@ -3,7 +3,7 @@
 -- proof knows of the functions that are called is that each meets its contract.
 -- Assumes nothing.
 use mathlib.Core.Path.{_≡_, refl, sym, _∙_, ap, subst}
-use Prim.Native.Nat.{ℕ, _<_, _≤_, _^_}
+use Prim.Native.Nat.{ℕ, _<_, _^_}
 use mathlib.Core.Bool.{true}
 use mathlib.Core.List.{List, [], _∷_}
 use lib.Dec.{T}
@@ -45,7 +45,7 @@ use Rattle.links.specs.Links.{tableRows}
 use Rattle.pairs.specs.Table.{tallied, filled}
 use Rattle.stored.specs.Records.{upTo}
 use Rattle.lent.proofs.RecordsRows.{upTo-most, upTo-accepts, upTo-filled}
-use Rattle.stored.proofs.RecordsLink.{R, J, judged, told, IsJudged, told-so, typed-judged, made-judged}
+use Rattle.stored.proofs.RecordsLink.{R, J, told, IsJudged, told-so, typed-judged, made-judged}
 use Rattle.lent.proofs.RecordsCalls.{calls-to, calls-plain, calls-over}
 use Rattle.lent.proofs.RecordsRead.{Own}
 use Rattle.lent.proofs.RecordsTable.{Table, OwnTable}

@@ -2,8 +2,8 @@
 -- opened, the link there is taken out of the row, stored to and put back, and the borrow is closed at the list with the new link in its place; past
 -- the end nothing is done, and that list is the same. Both arms meet in `ends`.
 -- Assumes nothing.
-use mathlib.Core.Path.{_≡_, refl, sym, ap, subst}
-use Prim.Native.Nat.{ℕ, _*_, _<_, _^_}
+use mathlib.Core.Path.{refl, sym, ap, subst}
+use Prim.Native.Nat.{ℕ, _<_, _^_}
 use mathlib.Core.Bool.{Bool}
 use mathlib.Core.List.{List, [], _∷_}
 use lib.Dec.{ltb→lt, nltb→le}

@@ -1,5 +1,5 @@
 -- `bones::input::read_input` meets its contract. The invariant: what was read stands in the room. Assumes nothing.
-use Prim.Native.Nat.{ℕ, _≤_, _-_}
+use Prim.Native.Nat.{_≤_, _-_}
 use mathlib.Core.Path.{_≡_, sym}
 use native.Mathlib.Omega.{arith}
 use lib.ListN.{length, length-set}

@@ -2,7 +2,7 @@
 -- lines of the first i links behind the head; its variant is i, which comes nearer to the count. All that the proof knows of the functions that are
 -- called is that each meets its contract.
 -- Assumes nothing.
-use mathlib.Core.Path.{_≡_, refl, sym, _∙_, ap}
+use mathlib.Core.Path.{_≡_, refl}
 use Prim.Native.Nat.{ℕ, _+_, _*_, _-_, _≤_, _<_, _^_, zero-le}
 use native.Mathlib.Nat.{le-antisymm, lt-of-le-of-lt, le-refl}
 use native.Mathlib.Numerals.{add-one-le, add-one-dec}

@@ -1,11 +1,10 @@
 -- `kinds::each_cut` meets its contract. The invariant: the first i entries stand at the place, as lines.
 -- Assumes nothing.
-use Prim.Native.Nat.{ℕ, suc, _+_, _*_, _-_, _/_, _≤_, _<_}
+use Prim.Native.Nat.{ℕ, _+_, _*_, _-_, _/_, _≤_, _<_}
 use mathlib.Core.Path.{_≡_, refl, sym, ap, _∙_}
-use mathlib.Core.List.{List, [], _∷_}
 use native.Mathlib.Omega.{arith}
 use borrow.Author.Needs.{needs}
-use lib.ListN.{length, take, drop}
+use lib.ListN.{length}
 use Rattle.cuts.specs.Record.{entrySize}
 use Rattle.frames.specs.Frame.{line}
 use Rattle.lines.specs.Kinds.{cutLines}

@@ -1,11 +1,10 @@
 -- `kinds::each_label` meets its contract. The invariant: the labels of the bones passed stand at the place.
 -- Assumes nothing.
-use Prim.Native.Nat.{ℕ, suc, _+_, _*_, _-_, _/_, _≤_}
+use Prim.Native.Nat.{ℕ, _+_, _*_, _-_, _≤_}
 use mathlib.Core.Path.{_≡_, refl, sym, ap, _∙_}
-use mathlib.Core.List.{List, [], _∷_}
 use native.Mathlib.Omega.{arith}
 use borrow.Author.Needs.{needs}
-use lib.ListN.{length, take, drop}
+use lib.ListN.{length}
 use Rattle.pairs.specs.Side.{heapOf}
 use Rattle.lines.specs.Kinds.{labelLine, labelLines}
 use Rattle.placing.specs.Placing.{over}

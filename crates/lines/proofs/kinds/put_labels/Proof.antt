@@ -1,9 +1,8 @@
 -- `kinds::put_labels` meets its contract. Assumes nothing.
-use Prim.Native.Nat.{ℕ, _+_, min}
+use Prim.Native.Nat.{ℕ, min}
 use mathlib.Core.Path.{ap, _∙_}
 use native.Mathlib.Omega.{arith}
 use borrow.Author.Needs.{needs}
-use lib.ListN.{length}
 use Rattle.pairs.specs.Side.{heapOf}
 use Rattle.lines.specs.Kinds.{labelLines}
 use Rattle.placing.specs.Placing.{over}

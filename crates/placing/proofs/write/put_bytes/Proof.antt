@@ -9,8 +9,7 @@ use lib.ListN.{length, take, getD}
 use lib.Seq.{take-all}
 use Rattle.frames.specs.Frame.{byteSum, hex}
 use Rattle.placing.specs.Placing.{over}
-use Rattle.frames.proofs.Frames.{sum-snoc}
-use Rattle.placing.proofs.Writes.{over-nil, length-over, next-hex, next-sum}
+use Rattle.placing.proofs.Writes.{over-nil, next-hex, next-sum}
 use Rattle.placing.proofs.write.put_bytes.Statement.{statement}
 use Rattle.placing.proofs.write.put_bytes.Tie as tie
 

@@ -1,11 +1,11 @@
 -- `write::write_line` meets its contract. Assumes nothing.
 use borrow.Author.Needs.{needs}
-use Prim.Native.Nat.{ℕ, _+_, _*_, _≤_}
-use mathlib.Core.Path.{_≡_, ap, _∙_}
+use Prim.Native.Nat.{ℕ, _+_, _*_}
+use mathlib.Core.Path.{ap, _∙_}
 use mathlib.Core.List.{[], _∷_}
 use native.Mathlib.Omega.{arith}
 use lib.ListN.{length, length-set}
-use Rattle.frames.specs.Frame.{byteSum, sumByte, hex, line}
+use Rattle.frames.specs.Frame.{hex}
 use Rattle.placing.specs.Placing.{over}
 use Rattle.placing.proofs.Writes.{length-line, negated, line-made}
 use Rattle.placing.proofs.write.write_line.Statement.{statement}

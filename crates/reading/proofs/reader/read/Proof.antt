@@ -2,7 +2,7 @@
 -- are to be stored. The text is passed on three times; each of the two rooms' references is given up to the call that stores in it, which says its last
 -- value. All that the proof knows of the functions that are called is that each meets its contract.
 -- Assumes nothing.
-use mathlib.Core.Path.{_≡_, refl, sym, _∙_, ap, subst}
+use mathlib.Core.Path.{_≡_, refl, sym, ap, subst}
 use Prim.Native.Nat.{ℕ, _*_, _<_, _^_}
 use mathlib.Core.List.{List, [], _∷_, _++_}
 use lib.Dec.{T}
@@ -45,9 +45,9 @@ use Rattle.cuts.specs.Record.{entrySize}
 use Rattle.reading.specs.declared.Reading.{Reading}
 use Rattle.reading.specs.Lines.{linesOf}
 use Rattle.reading.specs.Reader.{linksIn, entriesIn, readerRows, read as reads}
-use Rattle.reading.specs.Storing.{linksOf, cutsHeld, Storable}
+use Rattle.reading.specs.Storing.{linksOf, cutsHeld}
 use Rattle.reading.proofs.ReadsAll.{stored-size, links-ok, cuts-ok, reads-so}
-use Rattle.reading.proofs.ReadsRow.{D, reading, told, IsReading, told-so, typed-reading, made-reading}
+use Rattle.reading.proofs.ReadsRow.{D, told, IsReading, told-so, typed-reading, made-reading}
 use Rattle.reading.proofs.judge.judge as jud
 use Rattle.reading.proofs.judge.judge.Symbol as jud-def
 use Rattle.reading.proofs.judge.judge.Symbol.{name as #judge}

@@ -2,15 +2,14 @@
 -- room as it is then (`LinksSoFar`); its variant is the number stored, which comes nearer to the count. All that the proof knows of the functions
 -- that are called is that each meets its contract.
 -- Assumes nothing.
-use mathlib.Core.Path.{_≡_, refl, sym, _∙_, ap, subst}
+use mathlib.Core.Path.{_≡_, refl}
 use Prim.Native.Nat.{ℕ, _+_, _-_, _≤_, _<_, _^_, zero-le}
 use native.Mathlib.Nat.{lt-of-le-of-lt}
 use native.Mathlib.Numerals.{add-one-le, add-one-dec}
-use native.Mathlib.Omega.{arith}
 use mathlib.Core.WellFounded.{WellFounded, InvImage·wf}
 use mathlib.Core.Bool.{Bool, true, false}
 use mathlib.Core.List.{List, [], _∷_, _++_}
-use lib.Dec.{T, ltb, lit<}
+use lib.Dec.{ltb, lit<}
 use lib.ListN.{length, getD, set, take, drop}
 use lib.WfN.{Nat·lt-wfRel}
 use borrow.Author.Tests.{ltb-true, ltb-false}
@@ -47,7 +46,7 @@ use denote.Triple.Walked.{says, needs, Stays, stay-none-slice, stay-none, stay-s
 use denote.Exit.{yes}
 use Rattle.meaning.specs.declared.Link.{Link}
 use Rattle.stored.specs.Records.{noLink}
-use Rattle.stored.proofs.RecordsLink.{R, link, val, IsLink, tells, typed}
+use Rattle.stored.proofs.RecordsLink.{R, link, val, tells, typed}
 use Rattle.lent.proofs.RecordsCalls.{calls-over}
 use Rattle.lent.proofs.RecordsStore.{OwnOut, StoreLink, calls-store}
 use Rattle.stored.proofs.store_link.Symbol as store-def

@@ -1,6 +1,6 @@
 use borrow.Author.Needs.{needs}
 use mathlib.Core.Path.{_∙_}
-use Rattle.reading.proofs.ReadsPut.{link-well, link-kind, link-told, link-passed}
+use Rattle.reading.proofs.ReadsPut.{link-well, link-kind, link-told}
 use Rattle.reading.proofs.store.link_line.Statement.{statement}
 use Rattle.reading.proofs.store.link_line.Tie as tie
 use Rattle.reading.proofs.store.link_line.Reads as reads

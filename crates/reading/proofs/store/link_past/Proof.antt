@@ -1,6 +1,5 @@
 use borrow.Author.Needs.{needs}
-use mathlib.Core.Path.{_∙_}
-use Rattle.reading.proofs.ReadsPut.{link-well, link-kind, link-told, link-passed}
+use Rattle.reading.proofs.ReadsPut.{link-well, link-passed}
 use Rattle.reading.proofs.store.link_past.Statement.{statement}
 use Rattle.reading.proofs.store.link_past.Tie as tie
 use Rattle.reading.proofs.store.link_past.Reads as reads

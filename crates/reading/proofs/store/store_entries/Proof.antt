@@ -1,7 +1,6 @@
-use Prim.Native.Nat.{_-_, _≤_}
+use Prim.Native.Nat.{_-_}
 use mathlib.Core.Path.{refl}
 use native.Mathlib.Omega.{arith}
-use lib.ListN.{length, drop}
 use Rattle.reading.proofs.ReadsPut.{CutsSoFar, cuts-stored, cuts-same-size, cuts-start, cuts-left, cuts-room, cuts-more, cut-well, cut-kind}
 use Rattle.reading.proofs.store.store_entries.Statement.{statement}
 use Rattle.reading.proofs.store.store_entries.Tie as tie

@@ -1,9 +1,8 @@
 use Prim.Native.Nat.{ℕ, _+_, _-_, _≤_}
 use mathlib.Core.List.{List}
-use mathlib.Core.Path.{_≡_, sym, _∙_, ap}
+use mathlib.Core.Path.{_≡_, _∙_, ap}
 use native.Mathlib.Omega.{arith}
-use lib.ListN.{length, drop, set, length-set}
-use borrow.Author.Needs.{needs}
+use lib.ListN.{length, drop, set}
 use Rattle.cuts.specs.Record.{entrySize}
 use Rattle.reading.proofs.Walks.{within}
 use Rattle.reading.proofs.ReadsStore.{stored, stored-none, stored-more, stored-length}
