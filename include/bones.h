@@ -57,7 +57,7 @@
  *
  * Who owns what
  *   The caller owns every run; nothing is kept after the call, nothing is allocated, and no other memory is changed. Calls from
- *   several threads do not disturb each other. A call uses some 70 KB of stack, bones_read and bones_write_input hardly any. Room that is
+ *   several threads do not disturb each other. A call uses some 70 KB of stack, bones_read hardly any. Room that is
  *   written must not overlap other room that is written, nor a run that is read: no list is thinned, and no record finished, in its own
  *   place. Runs that are only read may overlap.
  *

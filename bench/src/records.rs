@@ -1,43 +1,20 @@
-//! Grouping over link records beside grouping over bytes: the same links, lent both ways to the proved calls of `crates/timed`.
+//! Grouping over link records beside grouping over bytes: the same links, lent both ways.
 
+use crate::library::{over_bytes, over_records, Link};
 use crate::report::{families, geometric_mean, rows_of, Row};
 use std::time::{Duration, Instant};
 
-/// n, k, links, record, labels and space as `bones_grouping` takes them, and how many times to group; gives the number of groups.
-type Call = unsafe extern "C" fn(u64, u64, *const u8, usize, *const u8, usize, *mut u8, usize, *mut u8, usize, u32) -> u32;
-
-extern "C" {
-    fn bytes_groups(
-        n: u64,
-        k: u64,
-        links: *const u8,
-        links_length: usize,
-        record: *const u8,
-        record_length: usize,
-        labels: *mut u8,
-        labels_length: usize,
-        space: *mut u8,
-        space_length: usize,
-        times: u32,
-    ) -> u32;
-    fn records_groups(
-        n: u64,
-        k: u64,
-        links: *const u8,
-        links_length: usize,
-        record: *const u8,
-        record_length: usize,
-        labels: *mut u8,
-        labels_length: usize,
-        space: *mut u8,
-        space_length: usize,
-        times: u32,
-    ) -> u32;
-}
-
-const CALLS: [Call; 2] = [bytes_groups, records_groups];
 const BATCH: Duration = Duration::from_micros(200);
 const ROUNDS: usize = 61;
+
+/// The two forms in which links are lent.
+#[derive(Clone, Copy)]
+enum Form {
+    Bytes,
+    Records,
+}
+
+const FORMS: [Form; 2] = [Form::Bytes, Form::Records];
 
 /// One list, nanoseconds a call of each form, and the ratio of the two.
 struct Both<'a> {
@@ -52,39 +29,36 @@ struct Room {
     space: [u8; 21 * 127],
 }
 
+/// The links of a list as records.
+fn records_of(links: &[u8]) -> Vec<Link> {
+    links.chunks_exact(4).map(|four| Link { a: four[0], b: four[1], tally: u16::from_be_bytes([four[2], four[3]]) }).collect()
+}
+
 impl Room {
-    fn groups(&mut self, call: Call, row: &Row, times: u32) -> u32 {
+    fn groups(&mut self, form: Form, row: &Row, records: &[Link]) -> usize {
         let list = &row.list;
-        // Every pointer comes from a slice whose length goes with it, and the two lent for writing are different slices.
-        unsafe {
-            call(
-                list.n as u64,
-                list.k as u64,
-                list.links.as_ptr(),
-                list.links.len(),
-                std::ptr::null(),
-                0,
-                self.labels.as_mut_ptr(),
-                self.labels.len(),
-                self.space.as_mut_ptr(),
-                self.space.len(),
-                times,
-            )
-        }
+        let answer = match form {
+            Form::Bytes => over_bytes(list.n, list.k, &list.links, &mut self.labels, &mut self.space),
+            Form::Records => over_records(list.n, list.k, records, &mut self.labels, &mut self.space),
+        };
+        answer.count as usize
     }
 
-    fn time(&mut self, call: Call, row: &Row, times: u32) -> f64 {
+    /// Nanoseconds of a call, over so many of them.
+    fn time(&mut self, form: Form, row: &Row, records: &[Link], times: u32) -> f64 {
         let start = Instant::now();
-        std::hint::black_box(self.groups(call, std::hint::black_box(row), times));
-        start.elapsed().as_nanos() as f64
+        for _ in 0..times {
+            std::hint::black_box(self.groups(form, std::hint::black_box(row), std::hint::black_box(records)));
+        }
+        start.elapsed().as_nanos() as f64 / f64::from(times)
     }
 
     /// Both forms give the labels and the number of groups that the library gave.
-    fn agree(&mut self, row: &Row) -> Result<(), String> {
+    fn agree(&mut self, row: &Row, records: &[Link]) -> Result<(), String> {
         let mut given = Vec::new();
-        for call in CALLS {
+        for form in FORMS {
             self.labels.fill(255);
-            if self.groups(call, row, 1) as usize != row.times.groups {
+            if self.groups(form, row, records) != row.times.groups {
                 return Err(format!("{}: another number of groups over records or bytes\n{}", row.list.name, row.list.text()));
             }
             given.push(self.labels);
@@ -95,22 +69,17 @@ impl Room {
         Ok(())
     }
 
-    /// The quickest of some calls that group no time: among it, over records, the making of the records.
-    fn making(&mut self, call: Call, row: &Row) -> f64 {
-        (0..ROUNDS).map(|_| self.time(call, row, 0)).fold(f64::INFINITY, f64::min)
-    }
-
     /// In each round a batch of the one and a batch of the other. The times are those of the quickest batches; the ratio is the median of the
     /// rounds' ratios, since a busy moment of the machine meets both batches of a round.
     fn both<'a>(&mut self, row: &'a Row) -> Result<Both<'a>, String> {
-        self.agree(row)?;
+        let records = records_of(&row.list.links);
+        self.agree(row, &records)?;
         let times = ((BATCH.as_nanos() as f64 / row.times.library) as u32).max(1);
-        let making = CALLS.map(|call| self.making(call, row));
         let mut rounds: Vec<[f64; 2]> = Vec::new();
         for round in 0..ROUNDS {
             let mut each = [0.0; 2];
             for form in [round % 2, 1 - round % 2] {
-                each[form] = (self.time(CALLS[form], row, times) - making[form]) / f64::from(times);
+                each[form] = self.time(FORMS[form], row, &records, times);
             }
             rounds.push(each);
         }

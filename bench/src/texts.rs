@@ -1,5 +1,6 @@
 //! The longest input text, read and written again: the library beside the plain loop.
 
+use crate::library::{again, NO_LINK};
 use crate::measure::{best, Care};
 use crate::plain_texts::{self, Link};
 use crate::rng::Rng;
@@ -9,15 +10,10 @@ use std::time::Duration;
 /// One head, 4,096 links, 127 cuts and a close.
 const LONGEST: usize = 20 + 13 * 4096 + 47 * 127;
 
-extern "C" {
-    fn texts_again(text: *const u8, text_length: usize, out: *mut u8, out_length: usize) -> u32;
-}
-
 type Call = fn(&[u8], &mut [u8]) -> usize;
 
 fn library(text: &[u8], out: &mut [u8]) -> usize {
-    // Every pointer comes from a slice whose length goes with it, and the two are different slices.
-    unsafe { texts_again(text.as_ptr(), text.len(), out.as_mut_ptr(), out.len()) as usize }
+    again(text, &mut [NO_LINK; 4096], &mut [0; 127 * 21], out)
 }
 
 fn plain(text: &[u8], out: &mut [u8]) -> usize {

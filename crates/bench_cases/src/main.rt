@@ -1,5 +1,6 @@
 // The bench cases that concern the table, the weight of a side, the search and the groups, run and printed. A line is a case: the refusal's number and
-// place (0 0 where the links are accepted), then the weight of one side of one pile by the table, which starts at nought; in the lines
+// place (0 0 where the links are accepted), then the weight of one side of one pile by the table, which starts at nought and holds the links before the
+// one that is refused; in the lines
 // of the search 1, the pile, the weight and the first eight bones of a light split, or noughts where every pile is firm, and then the number of groups.
 // Each of these has one light split at most.
 use cutting::Answer;

@@ -32,6 +32,10 @@ first-both [] ks = refl
 first-both (Accepted ∷ js) ks = first-both js ks
 first-both (Refused number place ∷ js) ks = refl
 
+pub firstOf-refused : {j : Judged} (k : Judged) {number place : ℕ} → j ≡ Refused number place → Refused number place ≡ firstOf j k
+unfolding firstOf
+firstOf-refused k e = rw e
+
 -- a row that accepts
 pub row-accepted : (b : Bool) (number place : ℕ) (js : List Judged) → first (refuse b number place ∷ js) ≡ Accepted → T (not b) × (first js ≡ Accepted)
 unfolding refuse first

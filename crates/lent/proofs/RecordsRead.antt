@@ -1,4 +1,4 @@
--- The calls of `link_at` and `link_of` in a walk over a run of link records, said once: the link is the one in place i.
+-- The call of `link_at` in a walk over a run of link records, said once: the link is the one in place i.
 --     Own              what a `&[Link]` owns
 -- Assumes `Given`, and that the table of calls is monotone under a frame.
 use mathlib.Core.Path.{_≡_, refl, sym, subst}
@@ -26,15 +26,12 @@ use denote.Slice.{sliceVal, ShrSlice, slice-vals, shr-slice-copy}
 use denote.Steps.{owned, nothing}
 use denote.Triple.Statement.{Contract, Triple}
 use denote.Triple.Spec.{tripleOf}
-use denote.Triple.Walked.{says}
 use Rattle.meaning.specs.declared.Link.{Link}
 use Rattle.stored.specs.Records.{noLink}
 use Rattle.stored.proofs.RecordsLink.{R, val, IsLink, tells}
 use Rattle.lent.proofs.RecordsCalls.{calls-over}
 use Rattle.stored.proofs.link_at as link-at
 use Rattle.stored.proofs.link_at.Symbol.{name as #link-at}
-use Rattle.lent.proofs.link_of as link-of
-use Rattle.lent.proofs.link_of.Symbol.{name as #link-of}
 
 abbrev pub Own : Lft → RefT (List Link) → Fml
 Own κ x = ShrSlice (named 0) κ R .own x (slice-vals x)
@@ -43,13 +40,7 @@ module _ {M : Type 1} (𝓤 : URA M) (H : Heap 𝓤) (A : Atoms 𝓤) (mem : Mem
   abbrev pub LinkAt : Contract 𝓤
   LinkAt = tripleOf 𝓤 H A link-at.signature (link-at.spec 𝓤 H A mem run)
 
-  abbrev pub LinkOf : Contract 𝓤
-  LinkOf = tripleOf 𝓤 H A link-of.signature (link-of.spec 𝓤 H A mem run)
-
-  -- what the calls are made at
-  abbrev pub to-link-of : Lft → Share → RefT (List Link) → ℕ → LinkOf .Ghost
-  to-link-of κ q x i = (((κ, tt), (q, tt), tt, (x, (i, tt)), (slice-vals x, (vint w64 i ∷ [], tt))), tt)
-
+  -- what the call is made at
   abbrev pub to-link-at : Lft → Share → RefT (List Link) → ℕ → LinkAt .Ghost
   to-link-at κ q x i = (((κ, tt), (q, tt), tt, (x, (i, tt)), (slice-vals x, (vint w64 i ∷ [], tt))), tt)
 
@@ -62,16 +53,5 @@ module _ {M : Type 1} {𝓤 : URA M} {H : Heap 𝓤} {A : Atoms 𝓤} {K : Type 
       calls-over (link-at.signature .params) (link-at.ended .kept) R val tells t fm (link-at.clauses 𝓤 H A mem run) known (ShrSlice (named 0) κ R) (shr-slice-copy 𝓤 H A W (named 0) κ R) x (slice-vals x) (x, (i, tt)) (slice-vals x, (vint w64 i ∷ [], tt)) tt
       (qed W (‵ (Own κ x) ∷ ‵ (flft κ q) ∷ []) ∵ nothing ! $ owned ! usize (Is usize) (uint-makes 𝓤 H A W w64) i (vint w64 i ∷ []) (refl, gi) $ fjoin ! $ move ! (1 ∷ 0 ∷ []) $ fjoin ! $
       nothing ! $ move ! (2 ∷ 0 ∷ []) $ join ! $ join ! $ frame ! $ done !)
-      (λ r. r ≡ getD (x .now) i noLink) (λ r ws. id⊢ 𝓤 _) os (λ r e is.
-      subst (λ (l : Link). Seq K W (‵ (Own κ x) ∷ ‵ (flft κ q) ∷ Γ) (lands C Λ E d (val l) rest post)) (sym e) (k (subst IsLink e is)))
-
-  pub calls-link-of : K → (mem : Memory → SProp 𝓤) (run : Routine → Fun 𝓤) → FmC 𝓤 H (W .laws) C → Triple 𝓤 (C #link-of) (LinkOf 𝓤 H A mem run) → {κ : Lft} {q : Share} (x : RefT (List Link)) (i : ℕ) → i < length (x .now) → i < 2 ^ 64
-      → Opds K W (raw (LinkOf 𝓤 H A mem run .pre (to-link-of 𝓤 H A mem run κ q x i)) ∷ ‵ (Own κ x) ∷ Γ) E xs (sliceVal (x .ptr) (length (x .now)) ∷ vint w64 i ∷ [])
-      → (IsLink (getD (x .now) i noLink) → Seq K W (‵ (Own κ x) ∷ ‵ (flft κ q) ∷ Γ) (lands C Λ E d (val (getD (x .now) i noLink)) rest post))
-      → Seq K W (‵ (Own κ x) ∷ ‵ (flft κ q) ∷ Γ) (runs C Λ E (seq (call #link-of xs d) rest) post)
-  calls-link-of t mem run fm known {κ} {q} x i less gi os k =
-      calls-over (link-of.signature .params) (link-of.ended .kept) R val tells t fm (link-of.clauses 𝓤 H A mem run) known (ShrSlice (named 0) κ R) (shr-slice-copy 𝓤 H A W (named 0) κ R) x (slice-vals x) (x, (i, tt)) (slice-vals x, (vint w64 i ∷ [], tt)) tt
-      (qed W (‵ (Own κ x) ∷ ‵ (flft κ q) ∷ []) ∵ says ! less $ nothing ! $ move ! (2 ∷ 0 ∷ []) $ join ! $ frame ! $
-      nothing ! $ owned ! usize (Is usize) (uint-makes 𝓤 H A W w64) i (vint w64 i ∷ []) (refl, gi) $ fjoin ! $ move ! (1 ∷ 0 ∷ []) $ fjoin ! $ done !)
       (λ r. r ≡ getD (x .now) i noLink) (λ r ws. id⊢ 𝓤 _) os (λ r e is.
       subst (λ (l : Link). Seq K W (‵ (Own κ x) ∷ ‵ (flft κ q) ∷ Γ) (lands C Λ E d (val l) rest post)) (sym e) (k (subst IsLink e is)))

@@ -9,22 +9,13 @@ use stored::link_at;
 use stored::same_label;
 use stored::store_link;
 ghost use mathlib.Core.Path.{_≡_};
-ghost use Prim.Native.Nat.{_+_, _-_, _<_, _≤_};
+ghost use Prim.Native.Nat.{_<_, _≤_};
 ghost use mathlib.Core.Bool.{true};
-ghost use lib.ListN.{length, getD, take};
+ghost use lib.ListN.{length};
 ghost use Rattle.meaning.specs.Judge.{first};
-ghost use Rattle.meaning.specs.declared.Judged.the-variants.{Accepted};
-ghost use Rattle.links.specs.Links.{linkRows, linksRows, tableRows};
-ghost use Rattle.pairs.specs.Table.{added, tallied, filled};
-ghost use Rattle.stored.specs.Records.{noLink, firstOf, upTo, refusedOne, refusedLinks, toJudge, keptLinks, written};
-
-// The link in place i, which is one of the run.
-pub(crate) fn link_of(links: &[Link], i: usize) -> Link
-    requires { ⌜ i < length (now links) ⌝ }
-    ensures { λ l. ⌜ l ≡ getD (now (links .entry)) i noLink ⌝ }
-{
-    links[i]
-}
+ghost use Rattle.links.specs.Links.{linkRows, tableRows};
+ghost use Rattle.pairs.specs.Table.{taken, filled};
+ghost use Rattle.stored.specs.Records.{upTo, keptLinks, written};
 
 // How many links are to be gone through: all, or none once the input is refused.
 fn up_to(judged: Judged, count: usize) -> usize
@@ -39,119 +30,41 @@ fn up_to(judged: Judged, count: usize) -> usize
     }
 }
 
-// The first refusal of what was judged before and of rows 4, 5 and 6 on the link in place i.
-fn judge_next(judged: Judged, n: u64, l: Link, i: usize) -> Judged
-    requires { ⌜ i < 4096 ⌝ }
-    ensures { λ r. ⌜ r ≡ firstOf judged (first (linkRows n i l)) ⌝ }
+// Takes in the link in place i: rows 4, 5 and 6 on it, and where they accept it is added.
+pub(crate) fn take_record(n: u64, l: Link, i: usize, table: &mut [u32; 16384]) -> Judged
+    requires { ⌜ (n ≤ 128) × (i < 4096) ⌝ }
+    ensures { λ r. ⌜ (r ≡ first (linkRows n i l)) × (now (table .exit) ≡ taken r (now (table .entry)) l) ⌝ }
 {
-    match judged {
-        Judged::Accepted => judge_link(n, l.a, l.b, l.tally, i as u32),
+    match judge_link(n, l.a, l.b, l.tally, i as u32) {
+        Judged::Accepted => {
+            add_within(table, l.a, l.b, l.tally);
+            Judged::Accepted
+        }
         Judged::Refused { number, place } => Judged::Refused { number, place },
     }
 }
 
-// How many bones fewer than 128 the links are judged among: 128 once the input is refused. A bone is one of them where the sum is below 128, a test
-// on which the compiler stays at 32 bits.
-fn fewer_of(judged: Judged, n: u64) -> u32
-    requires { ⌜ (judged ≡ Accepted → n ≤ 128) ⌝ }
-    ensures { λ r. ⌜ r ≡ 128 - upTo judged n ⌝ }
-{
-    match judged {
-        Judged::Accepted => 128 - n as u32,
-        Judged::Refused {
-            number: _,
-            place: _,
-        } => 128,
-    }
-}
-
-// 1 where rows 4, 5 and 6 refuse a link, else 0. The same bone twice is told from the two bytes that it makes, which keeps the compiler at 32 bits.
-fn refused_one(fewer: u32, l: Link) -> u32
-    requires { ⌜ fewer ≤ 128 ⌝ }
-    ensures { λ r. ⌜ r ≡ refusedOne (128 - fewer) l ⌝ }
-{
-    let a = l.a as u32;
-    let b = l.b as u32;
-    if 128 <= a + fewer {
-        return 1;
-    }
-    if 128 <= b + fewer {
-        return 1;
-    }
-    if a * 257 == b * 256 + a {
-        return 1;
-    }
-    let tally = l.tally;
-    if tally == 0 {
-        return 1;
-    }
-    0
-}
-
-// How many of the first links are refused: a sum, so that the compiler may take several links at once.
-fn refused_links(fewer: u32, links: &[Link], count: usize) -> u32
-    requires { ⌜ (fewer ≤ 128) × (count ≤ length (now links)) × (count ≤ 4096) ⌝ }
-    ensures { λ r. ⌜ r ≡ refusedLinks (128 - fewer) (now (links .entry)) count ⌝ }
-{
-    let mut refused = 0;
-    let mut i = 0;
-    while i < count {
-        refused += refused_one(fewer, link_of(links, i));
-        i += 1;
-    }
-    refused
-}
-
-// How many links are judged in turn: none where none is refused.
-fn to_judge(refused: u32, count: usize) -> usize
-    ensures { λ r. ⌜ r ≡ toJudge refused count ⌝ }
-{
-    if refused == 0 { 0 } else { count }
-}
-
-// Rows 1 to 6 on links lent as records. Most runs have nothing to refuse, so the first refusal is looked for only where there is one.
-pub fn judge_records(n: u64, k: u64, links: &[Link]) -> Judged
-    ensures { λ r. ⌜ r ≡ first (tableRows n k true (now (links .entry))) ⌝ }
-{
-    let mut judged = judge_counts(n, k, true, links.len());
-    let all = up_to(judged, links.len());
-    let refused = refused_links(fewer_of(judged, n), links, all);
-    let count = to_judge(refused, all);
-    let mut i = 0;
-    while i < count {
-        judged = judge_next(judged, n, link_at(links, i), i);
-        i += 1;
-    }
-    judged
-}
-
-// One link added.
-pub(crate) fn add_record(table: &mut [u32; 16384], l: Link)
-    requires { ⌜ (l .a < 128) × (l .b < 128) ⌝ }
-    ensures { λ _. ⌜ now (table .exit) ≡ added (now (table .entry)) l ⌝ }
-{
-    add_within(table, l.a, l.b, l.tally);
-}
-
-// The first links of a run of records added. They were judged: no end is 128 or more.
-fn add_records(links: &[Link], count: usize, table: &mut [u32; 16384])
-    requires { ⌜ (count ≤ length (now links)) × (first (linksRows 128 0 (take count (now links))) ≡ Accepted) ⌝ }
-    ensures { λ _. ⌜ now (table .exit) ≡ tallied (now (table .entry)) (take count (now (links .entry))) ⌝ }
-{
-    let mut i = 0;
-    while i < count {
-        add_record(table, link_of(links, i));
-        i += 1;
-    }
-}
-
-// Judges n, k and links lent as records, and adds the links to the table; where they are refused it stays as it was.
+// Judges n, k and links lent as records, and adds the links to the table, as far as they are accepted.
 pub fn fill_records(n: u64, k: u64, links: &[Link], table: &mut [u32; 16384]) -> Judged
     ensures { λ r. ⌜ (r ≡ first (tableRows n k true (now (links .entry)))) × (now (table .exit) ≡ filled r (now (table .entry)) (now (links .entry))) ⌝ }
 {
-    let judged = judge_records(n, k, links);
-    add_records(links, up_to(judged, links.len()), table);
+    let mut judged = judge_counts(n, k, true, links.len());
+    let mut count = up_to(judged, links.len());
+    let mut i = 0;
+    while i < count {
+        judged = take_record(n, link_at(links, i), i, table);
+        count = up_to(judged, count);
+        i += 1;
+    }
     judged
+}
+
+// Rows 1 to 6 on links lent as records, for a caller that has no use for their table.
+pub fn judge_records(n: u64, k: u64, links: &[Link]) -> Judged
+    ensures { λ r. ⌜ r ≡ first (tableRows n k true (now (links .entry))) ⌝ }
+{
+    let mut table = [0u32; 16384];
+    fill_records(n, k, links, &mut table)
 }
 
 // Writes in order the links whose ends carry the same label, and gives their number. Nothing is written past the end of `out`, and the rest of it

@@ -74,11 +74,7 @@ linksOf-at bytes i d h =
     ∙ sym (getD-drop i (linksOf bytes) 0 d)
     ∙ ap (λ (ls : List Link). getD ls 0 d) (sym (linksOf-drop bytes i) ∙ linksOf-next bytes i h refl)
 
--- and so the links from place i on begin with the one that is read there; past the last, none is
-pub linksOf-read : (bytes : List ℕ) (i : ℕ) {l : Link} (d : Link) → i < length bytes / 4 → l ≡ getD (linksOf bytes) i d
-    → linksOf (drop (i * 4) bytes) ≡ l ∷ linksOf (drop ((i + 1) * 4) bytes)
-linksOf-read bytes i d h e = linksOf-next bytes i h (e ∙ linksOf-at bytes i d h)
-
+-- past the last there is none
 pub linksOf-past : (bytes : List ℕ) (i : ℕ) (d : Link) → length bytes / 4 ≤ i → d ≡ getD (linksOf bytes) i d
 linksOf-past bytes i d h = sym (List·getD-eq-default (linksOf bytes) d (omega (arith, h, length-linksOf bytes)))
 

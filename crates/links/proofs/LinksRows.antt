@@ -10,7 +10,8 @@ use native.Mathlib.Omega.{arith}
 use Rattle.meaning.specs.declared.Link.{Link}
 use Rattle.meaning.specs.declared.Judged.{Judged}
 use Rattle.meaning.specs.declared.Judged.the-variants.{Accepted, Refused}
-use lib.ListN.{length}
+use lib.ListN.{length, getD, drop, drop-of-length-le}
+use lib.Seq.{drop-cons}
 use lib.Dec.{T, eqb, leb, ltb}
 use borrow.Author.Tests.{eqb-false, leb-false, ltb-false, not-false, lt-leb, ne-eqb}
 use Rattle.meaning.specs.Judge.{refuse, first}
@@ -142,24 +143,37 @@ propers-more n m (l ∷ ls) h p = (
   propers-more n m ls h (p .1),
 )
 
--- judging links in turn: at place i, where `rest` are the links that are left, past a link that is accepted, and at one that
--- is refused; where all that are left are accepted, so is the next
-pub links-next : (n i : ℕ) (l : Link) (ls : List Link) {rest : List Link} → rest ≡ l ∷ ls → first (linkRows n i l) ≡ Accepted → first (linksRows n i rest) ≡ first (linksRows n (i + 1) ls)
-unfolding linksRows
-links-next n i l ls {rest} r e = rw (r, add-one i) (first-accepted (linkRows n i l) (linksRows n (suc i) ls) e)
+-- judging links in turn, from the one in place i on: past one that is accepted, at one that is refused, and behind the last
+module _ (n : ℕ) (links : List Link) (i : ℕ) (d : Link) (h : i < length links) where
+  pub links-next : first (linkRows n i (getD links i d)) ≡ Accepted → first (linksRows n i (drop i links)) ≡ first (linksRows n (i + 1) (drop (i + 1) links))
+  unfolding linksRows
+  links-next e = rw (drop-cons links i d h, add-one i) (first-accepted (linkRows n i (getD links i d)) (linksRows n (suc i) (drop (suc i) links)) e)
 
-pub links-stop : (n i : ℕ) (l : Link) (ls : List Link) (number place : ℕ) {rest : List Link} → rest ≡ l ∷ ls → first (linkRows n i l) ≡ Refused number place → first (linksRows n i rest) ≡ Refused number place
-unfolding linksRows
-links-stop n i l ls number place {rest} r e =
-    rw r (first-refused (linkRows n i l) (linksRows n (suc i) ls) number place e)
+  pub links-stop : (number place : ℕ) → first (linkRows n i (getD links i d)) ≡ Refused number place → first (linksRows n i (drop i links)) ≡ Refused number place
+  unfolding linksRows
+  links-stop number place e =
+      rw (drop-cons links i d h) (first-refused (linkRows n i (getD links i d)) (linksRows n (suc i) (drop (suc i) links)) number place e)
 
-pub links-here : (n i : ℕ) (l : Link) (ls : List Link) {rest : List Link} → rest ≡ l ∷ ls → first (linksRows n i rest) ≡ Accepted → first (linkRows n i l) ≡ Accepted
-unfolding linksRows
-links-here n i l ls {rest} r e = accepted-left (linkRows n i l) (linksRows n (suc i) ls) (rw r at e)
-
-pub links-none : (n i : ℕ) {rest : List Link} → rest ≡ [] → first (linksRows n i rest) ≡ Accepted
+pub links-none : (n i : ℕ) (links : List Link) → length links ≤ i → first (linksRows n i (drop i links)) ≡ Accepted
 unfolding linksRows first
-links-none n i {rest} r = rw r refl
+links-none n i links h = rw (drop-of-length-le links {i = i} h) refl
+
+-- the places of refusals: the link's own, and nought for rows 1, 2 and 3
+three-places : (a b c : Bool) (r s t i number place : ℕ) → first (refuse a r i ∷ refuse b s i ∷ refuse c t i ∷ []) ≡ Refused number place → place ≡ i
+unfolding refuse first
+three-places true b c r s t i number place e = cc
+three-places false true c r s t i number place e = cc
+three-places false false true r s t i number place e = cc
+three-places false false false r s t i number place e = absurd (never-both Accepted number place refl e)
+
+pub link-place : (n i : ℕ) (l : Link) (number place : ℕ) → first (linkRows n i l) ≡ Refused number place → place ≡ i
+unfolding linkRows
+link-place n i l number place e = three-places (leb n (l .a) || leb n (l .b)) (eqb (l .a) (l .b)) (eqb (l .tally) 0) 4 5 6 i number place e
+
+pub counts-place : (n k : ℕ) (good : Bool) (count number place : ℕ) → first (countRows n k good count) ≡ Refused number place → place ≡ 0
+unfolding countRows
+counts-place n k good count number place e =
+    three-places (eqb n 0 || ltb 128 n) (eqb k 0 || ltb 65535 k) (not good || ltb 4096 count) 1 2 3 0 number place e
 
 -- rows 1 to 6: past rows 1, 2 and 3, and at one of them; and what all accept
 pub table-next : (n k : ℕ) (good : Bool) (links : List Link) → first (countRows n k good (length links)) ≡ Accepted → first (tableRows n k good links) ≡ first (linksRows n 0 links)

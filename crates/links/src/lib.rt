@@ -1,11 +1,11 @@
-// Judging the bone count, the threshold and the links: rows 1 to 6 of the refusal table. Nothing is changed here.
+// Judging the bone count, the threshold and one link: rows 1 to 6 of the refusal table; and the link in a place of a run of bytes.
 use meaning::Judged;
 use meaning::Link;
 ghost use mathlib.Core.Path.{_≡_};
 ghost use Rattle.meaning.specs.Judge.{first};
-ghost use Prim.Native.Nat.{_+_, _*_, _/_, _≤_};
-ghost use lib.ListN.{length, getD};
-ghost use Rattle.links.specs.Links.{linksOf, whole, countRows, linkRows, linksRows, tableRows};
+ghost use Prim.Native.Nat.{_+_, _*_};
+ghost use lib.ListN.{getD};
+ghost use Rattle.links.specs.Links.{linksOf, countRows, linkRows};
 
 // Rows 1, 2 and 3. `whole` says that the run in which the links were lent holds whole links.
 pub fn judge_counts(n: u64, k: u64, whole: bool, count: usize) -> Judged
@@ -81,33 +81,5 @@ pub fn link_at(links: &[u8], i: usize) -> Link
         a: links[at],
         b: links[at + 1],
         tally,
-    }
-}
-
-// Rows 4, 5 and 6 on each link of a run of bytes in turn.
-fn judge_links(n: u64, links: &[u8]) -> Judged
-    requires { ⌜ length (now links) / 4 ≤ 4096 ⌝ }
-    ensures { λ r. ⌜ r ≡ first (linksRows n 0 (linksOf (now (links .entry)))) ⌝ }
-{
-    let count = links.len() / 4;
-    let mut i = 0;
-    while i < count {
-        let l = link_at(links, i);
-        match judge_link(n, l.a, l.b, l.tally, i as u32) {
-            Judged::Accepted => {}
-            Judged::Refused { number, place } => return Judged::Refused { number, place },
-        }
-        i += 1;
-    }
-    Judged::Accepted
-}
-
-// Rows 1 to 6 on links lent as bytes.
-pub fn judge(n: u64, k: u64, links: &[u8]) -> Judged
-    ensures { λ r. ⌜ r ≡ first (tableRows n k (whole (now (links .entry))) (linksOf (now (links .entry)))) ⌝ }
-{
-    match judge_counts(n, k, links.len() % 4 == 0, links.len() / 4) {
-        Judged::Accepted => judge_links(n, links),
-        Judged::Refused { number, place } => Judged::Refused { number, place },
     }
 }

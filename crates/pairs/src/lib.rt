@@ -3,7 +3,6 @@ pub mod numbers;
 mod side;
 pub mod table;
 
-pub use links::judge;
 pub use side::in_side;
 pub use side::weigh;
 pub use table::fill;

@@ -1,12 +1,13 @@
-// The pair table: links are judged, and then added to it.
+// The pair table, and the links that are judged and added to it.
 use crate::numbers::wide;
-use links::judge;
+use links::judge_counts;
+use links::judge_link;
 use links::link_at;
 use meaning::Judged;
 ghost use mathlib.Core.Path.{_≡_};
-ghost use Prim.Native.Nat.{_%_, _<_, _^_};
+ghost use Prim.Native.Nat.{_/_, _%_, _<_, _≤_, _^_};
+ghost use lib.ListN.{length};
 ghost use Rattle.meaning.specs.Judge.{first};
-ghost use Rattle.meaning.specs.declared.Judged.the-variants.{Accepted};
 ghost use Rattle.links.specs.Links.{linksOf, whole, linksRows, tableRows};
 ghost use Rattle.pairs.specs.Table.{spot, held, raised, lowered, added, tallied, filled};
 
@@ -73,30 +74,32 @@ pub fn add_within(table: &mut [u32; 16384], a: u8, b: u8, tally: u16)
     add_link(table, a % 128, b % 128, tally);
 }
 
-// Every link of a run of bytes added. They were judged: no end is 128 or more.
-fn add_links(links: &[u8], table: &mut [u32; 16384])
-    requires { ⌜ first (linksRows 128 0 (linksOf (now links))) ≡ Accepted ⌝ }
-    ensures { λ _. ⌜ now (table .exit) ≡ tallied (now (table .entry)) (linksOf (now (links .entry))) ⌝ }
+// Each link of a run of bytes in turn: rows 4, 5 and 6 on it, and where they accept it is added.
+fn take_links(n: u64, links: &[u8], table: &mut [u32; 16384]) -> Judged
+    requires { ⌜ (n ≤ 128) × (length (now links) / 4 ≤ 4096) ⌝ }
+    ensures { λ r. ⌜ r ≡ first (linksRows n 0 (linksOf (now (links .entry)))) ⌝ }
+    ensures { λ r. ⌜ now (table .exit) ≡ filled r (now (table .entry)) (linksOf (now (links .entry))) ⌝ }
 {
     let count = links.len() / 4;
     let mut i = 0;
     while i < count {
         let l = link_at(links, i);
-        add_link(table, l.a, l.b, l.tally);
+        match judge_link(n, l.a, l.b, l.tally, i as u32) {
+            Judged::Accepted => add_link(table, l.a, l.b, l.tally),
+            Judged::Refused { number, place } => return Judged::Refused { number, place },
+        }
         i += 1;
     }
+    Judged::Accepted
 }
 
-// Judges n, k and links lent as bytes, four a link, and adds the links to the table; where they are refused it stays as it was.
+// Judges n, k and links lent as bytes, four a link, and adds the links to the table, as far as they are accepted.
 pub fn fill(n: u64, k: u64, links: &[u8], table: &mut [u32; 16384]) -> Judged
     ensures { λ r. ⌜ r ≡ first (tableRows n k (whole (now (links .entry))) (linksOf (now (links .entry)))) ⌝ }
     ensures { λ r. ⌜ now (table .exit) ≡ filled r (now (table .entry)) (linksOf (now (links .entry))) ⌝ }
 {
-    match judge(n, k, links) {
-        Judged::Accepted => {
-            add_links(links, table);
-            Judged::Accepted
-        }
+    match judge_counts(n, k, links.len() % 4 == 0, links.len() / 4) {
+        Judged::Accepted => take_links(n, links, table),
         Judged::Refused { number, place } => Judged::Refused { number, place },
     }
 }

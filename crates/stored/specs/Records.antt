@@ -1,8 +1,8 @@
 -- Runs of link records: what the functions over them say of one link and of those before it.
-use Prim.Native.Nat.{ℕ, zero, suc, _+_}
+use Prim.Native.Nat.{ℕ}
 use mathlib.Core.Bool.{Bool, cond, _&&_}
 use mathlib.Core.List.{List, [], _∷_}
-use lib.Dec.{eqb, leb, ltb}
+use lib.Dec.{eqb, ltb}
 use lib.ListN.{getD}
 use lib.Seq.{sets}
 use Rattle.meaning.specs.declared.Link.{Link}
@@ -22,18 +22,6 @@ firstOf (Refused number place) j = Refused number place
 unfoldable pub upTo : Judged → ℕ → ℕ
 upTo Accepted count = count
 upTo (Refused number place) count = 0
-
--- 1 where rows 4, 5 and 6 refuse a link among n bones, else 0; and how many of the first links of a run they refuse
-unfoldable pub refusedOne : ℕ → Link → ℕ
-refusedOne n l = cond (leb n (l .a)) 1 (cond (leb n (l .b)) 1 (cond (eqb (l .a) (l .b)) 1 (cond (eqb (l .tally) 0) 1 0)))
-
-unfoldable pub refusedLinks : ℕ → List Link → ℕ → ℕ
-refusedLinks n links zero = 0
-refusedLinks n links (suc i) = refusedLinks n links i + refusedOne n (getD links i noLink)
-
--- how many links are judged in turn: none where none is refused
-unfoldable pub toJudge : ℕ → ℕ → ℕ
-toJudge refused count = cond (eqb refused 0) 0 count
 
 -- whether both ends of a link carry the same label; a run of labels has 128
 unfoldable pub sameLabel : List ℕ → Link → Bool

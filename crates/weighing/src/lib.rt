@@ -8,5 +8,4 @@ pub mod search;
 
 pub use pairs::fill;
 pub use pairs::in_side;
-pub use pairs::judge;
 pub use pairs::weigh;

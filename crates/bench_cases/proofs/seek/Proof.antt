@@ -2,7 +2,7 @@
 use Prim.Native.Nat.{ℕ}
 use mathlib.Core.Path.{_≡_, refl, _∙_, ap}
 use mathlib.Core.List.{List}
-use lib.ListN.{length, length-replicate}
+use lib.ListN.{length, take, length-replicate}
 use Rattle.meaning.specs.declared.Link.{Link}
 use Rattle.meaning.specs.declared.Judged.{Judged}
 use Rattle.meaning.specs.declared.Judged.the-variants.{Accepted, Refused}
@@ -15,7 +15,7 @@ use Rattle.bench_cases.proofs.seek.Tie as tie
 length-filled : (r : Judged) (t : List ℕ) (links : List Link) → length (filled r t links) ≡ length t
 unfolding filled
 length-filled Accepted t links = length-tallied links t
-length-filled (Refused number place) t links = refl
+length-filled (Refused number place) t links = length-tallied (take place links) t
 
 search-requires : tie.Need-search-requires
 search-requires c κs = ap length (c .before .before .fill .ensures .1) ∙ length-filled _ _ _ ∙ length-replicate {A = ℕ} 16384 0

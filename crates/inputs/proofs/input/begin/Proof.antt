@@ -1,8 +1,7 @@
 -- `input::begin` meets its contract. Assumes nothing.
 use mathlib.Core.Path.{sym}
 use borrow.Author.Needs.{needs}
-use Rattle.lent.proofs.RecordsRows.{firstOf-refused}
-use Rattle.inputs.proofs.WritesRows.{begun-refused, begun-after}
+use Rattle.inputs.proofs.WritesRows.{firstOf-refused, begun-refused, begun-after}
 use Rattle.inputs.proofs.input.begin.Statement.{statement}
 use Rattle.inputs.proofs.input.begin.Tie as tie
 

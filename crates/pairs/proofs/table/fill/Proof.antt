@@ -1,27 +1,42 @@
--- `pairs::table::fill` meets its contract: the links are added where they are accepted. Assumes nothing.
-use mathlib.Core.Path.{refl, sym, _∙_}
-use Rattle.pairs.specs.Table.{filled}
-use Rattle.links.proofs.LinksRows.{links-proper, propers-more, table-counted, table-proper}
+-- `pairs::table::fill` meets its contract: rows 1 to 3, and where they accept, the links are taken in. Assumes nothing.
+use mathlib.Core.Path.{sym, _∙_}
+use denote.Ref.{now}
 use borrow.Author.Needs.{needs}
+use Rattle.links.specs.Links.{whole}
+use Rattle.links.proofs.LinksRows.{counts-accepted, counts-place, table-next, table-stop}
+use Rattle.links.proofs.LinksBytes.{length-linksOf}
+use Rattle.pairs.proofs.TableAdds.{filled-none}
 use Rattle.pairs.proofs.table.fill.Statement.{statement}
 use Rattle.pairs.proofs.table.fill.Tie as tie
 
-add-links-requires : tie.Need-add-links-requires
-add-links-requires c κs =
+take-links-requires : tie.Need-take-links-requires
+take-links-requires c κs =
     let a = c .before .before .before .before .before .args in
-    let accepted = sym (c .before .before .before .judge .ensures) ∙ c .before .enum-told .given .1 in
-    links-proper 128 0 _
-    (propers-more (a .n) 128 _ (table-counted (a .n) (a .k) _ _ accepted .few-bones) (table-proper (a .n) (a .k) _ _ accepted))
+    let counted = counts-accepted (a .n) (a .k) _ _ (sym (c .before .before .before .judge-counts .ensures) ∙ c .before .enum-told .given .1) in
+    (counted .few-bones, counted .few-links)
 
+-- the rows speak of the number of links, and the code of a quarter of the bytes
 returns : tie.Need-returns
-unfolding filled
-returns c = (sym (c .before .before .enum-told .given .1) ∙ c .before .before .before .before .judge .ensures, c .add-links .ensures)
+unfolding whole
+returns c =
+    let a = c .before .before .before .before .before .before .args in (
+      c .take-links .ensures .0
+          ∙ sym
+          (table-next (a .n) (a .k) _ _
+          (rw (length-linksOf (now (a .links))) (sym (c .before .before .before .before .judge-counts .ensures) ∙ c .before .before .enum-told .given .1))),
+      c .take-links .ensures .1,
+    )
 
 returns-2 : tie.Need-returns-2
-unfolding filled
-returns-2 c = (sym (c .before .number .given .1) ∙ c .before .before .before .judge .ensures, refl)
+unfolding whole
+returns-2 c =
+    let a = c .before .before .before .before .before .args in
+    let refused = sym (c .before .before .before .judge-counts .ensures) ∙ c .before .number .given .1 in (
+      sym (table-stop (a .n) (a .k) _ _ _ _ (rw (length-linksOf (now (a .links))) refused)),
+      filled-none _ _ _ _ (counts-place (a .n) (a .k) _ _ _ _ refused),
+    )
 
 pub fill-spec : {M : Type 1} → statement M
 fill-spec =
     tie.close
-    (tie.spec (λ c κs. search needs) (λ c. search needs) add-links-requires (λ c. search needs) returns returns-2)
+    (tie.spec (λ c κs. search needs) (λ c. search needs) take-links-requires (λ c. search needs) returns returns-2)

@@ -1,3 +1,0 @@
--- The laws behind what the bench times.
-pub mod Repeats
-pub mod Unique

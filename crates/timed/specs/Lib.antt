@@ -1,3 +1,0 @@
--- What is promised of what the bench times.
-pub mod Again
-pub mod Groups
