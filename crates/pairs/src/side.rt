@@ -1,5 +1,5 @@
 // The weight of a split: the tallies between the two sides of a pile.
-use crate::table::tally_at;
+use crate::table::tally_between;
 ghost use mathlib.Core.Path.{_≡_};
 ghost use mathlib.Core.Bool.{_&&_, not, cond};
 ghost use Prim.Native.Nat.{_*_, _^_, _≤_, _<_, min};
@@ -36,7 +36,7 @@ fn across(
 {
     if names[j] == name {
         if !in_side(side, j) {
-            return tally_at(table, i, j) as u64;
+            return tally_between(table, i, j);
         }
     }
     0

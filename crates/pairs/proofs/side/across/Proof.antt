@@ -1,9 +1,11 @@
 -- `pairs::side::across` meets its contract. Assumes nothing.
-use mathlib.Core.Path.{sym, _∙_}
+use Prim.Native.Nat.{_%_}
+use mathlib.Core.Path.{_≡_, sym, _∙_, ap₂}
 use native.Mathlib.Omega.{arith}
 use borrow.Author.Tests.{eq-eqb, ne-eqb, not-true, not-false}
 use denote.Ref.{now}
 use Rattle.pairs.specs.Side.{heapOf}
+use Rattle.pairs.specs.Table.{held}
 use Rattle.pairs.proofs.Sides.{on-side}
 use borrow.Author.Needs.{needs}
 use Rattle.pairs.proofs.side.across.Statement.{statement}
@@ -14,7 +16,9 @@ unfolding heapOf
 returns c =
     let a = c .before .before .before .before .before .args in
     let off = sym (on-side (now (a .side)) (a .j) (omega arith) (c .before .before .in-side .ensures)) ∙ not-true _ (c .before .if2 .taken) in
-    (simp (eq-eqb _ _ (c .before .before .before .if1 .taken), off) (c .tally-at .ensures), omega (arith, c .tally-at .ok))
+    let one : a .i % 128 ≡ a .i = omega arith in
+    let two : a .j % 128 ≡ a .j = omega arith in
+    (simp (eq-eqb _ _ (c .before .before .before .if1 .taken), off) (c .tally-between .ensures .0 ∙ ap₂ (held (now (a .table))) one two), c .tally-between .ensures .1)
 
 returns-2 : tie.Need-returns-2
 unfolding heapOf
@@ -35,7 +39,6 @@ across-spec =
     (λ c. search needs)
     (λ c κs. search needs)
     (λ c κs. search needs)
-    (λ c. search needs)
     returns
     returns-2
     returns-3)
