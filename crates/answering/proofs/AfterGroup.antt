@@ -20,23 +20,23 @@ use Rattle.meaning.specs.Heap.{Cut, start, LawfulRun, left, finished}
 use Rattle.meaning.proofs.Sums.{count-most}
 use Rattle.meaning.proofs.Theorems.{links-symmetric, can-finish, cuts-and-groups}
 use Rattle.links.specs.Links.{tableRows}
-use Rattle.stored.specs.Records.{firstOf}
+use Rattle.links.specs.Records.{firstOf}
 use Rattle.links.proofs.LinksRows.{table-counted, accepted-left, accepted-right}
 use Rattle.cutting.specs.declared.Answer.{Answer}
-use Rattle.cuts.specs.Record.{entrySize, cutsOf}
-use Rattle.replay.specs.Rows.{recordRows}
+use Rattle.cutting.specs.Record.{entrySize, cutsOf}
+use Rattle.cutting.specs.RecordRows.{recordRows}
 use Rattle.cutting.specs.Rows.{labelRow, spaceRow, groupingRows}
 use Rattle.cutting.specs.Runs.{answered, Recorded, Continued}
 use Rattle.cutting.specs.Calls.{Grouping}
-use Rattle.cuts.proofs.Cuts.{length-cuts}
+use Rattle.cutting.proofs.Cuts.{length-cuts}
 use Rattle.cutting.proofs.Continuing.{Sound, record-sound}
 use Rattle.cutting.proofs.Demands.{own, own-sound}
-use Rattle.replay.proofs.Lawful.{record-fits, lawful-entries}
-use Rattle.lines.specs.declared.Written.{Written}
-use Rattle.lines.specs.Kinds.{refusalLine}
-use Rattle.lines.specs.Writing.{Writes}
+use Rattle.cutting.proofs.Lawful.{record-fits, lawful-entries}
+use Rattle.texts.specs.declared.Written.{Written}
+use Rattle.texts.specs.Kinds.{refusalLine}
+use Rattle.texts.specs.Writing.{Writes}
 use Rattle.texts.specs.Writers.{resultText, resultRows}
-use Rattle.texts.proofs.WritesRows.{result-rows}
+use Rattle.texts.proofs.ResultRows.{result-rows}
 use Rattle.answering.specs.Prints.{groupedRows, Finishes, Printed, Answers}
 use Rattle.answering.specs.Steps.{Ready, AfterGrouping}
 use Rattle.answering.proofs.Fitting.{Fits, grouping-fits}

@@ -12,16 +12,16 @@ use Rattle.meaning.specs.declared.Judged.{Judged}
 use Rattle.meaning.specs.declared.Judged.the-variants.{Accepted, Refused}
 use Rattle.meaning.specs.Judge.{refuse, first}
 use Rattle.links.proofs.LinksRows.{first-accepted, first-refused, accepted-left, accepted-right}
-use Rattle.cuts.specs.Record.{entrySize}
-use Rattle.reading.specs.declared.Reading.{Reading}
-use Rattle.lines.specs.declared.Written.{Written}
-use Rattle.stages.specs.declared.stage.Stage.the-variants.{Opening}
-use Rattle.reading.specs.Lines.{Line, linesOf, lineRows}
-use Rattle.reading.specs.Reader.{linksIn, entriesIn, bonesIn, thresholdIn, readerRows, read, put, Reads}
-use Rattle.reading.specs.Storing.{linksOf, cutsHeld}
-use Rattle.lines.specs.Kinds.{refusalLine}
-use Rattle.reading.proofs.ReadsRows.{accepted-well, entries-whole}
-use Rattle.reading.proofs.ReadsAll.{links-ok, cuts-ok}
+use Rattle.cutting.specs.Record.{entrySize}
+use Rattle.texts.specs.declared.Reading.{Reading}
+use Rattle.texts.specs.declared.Written.{Written}
+use Rattle.frames.specs.declared.stage.Stage.the-variants.{Opening}
+use Rattle.texts.specs.Lines.{Line, linesOf, lineRows}
+use Rattle.texts.specs.Reader.{linksIn, entriesIn, bonesIn, thresholdIn, readerRows, read, put, Reads}
+use Rattle.texts.specs.Storing.{linksOf, cutsHeld}
+use Rattle.texts.specs.Kinds.{refusalLine}
+use Rattle.texts.proofs.ReadsRows.{accepted-well, entries-whole}
+use Rattle.texts.proofs.ReadsAll.{links-ok, cuts-ok}
 use Rattle.answering.specs.Prints.{groupedRows, programRows, Printed, Answers, Answering}
 use Rattle.answering.specs.Steps.{Held, AfterReading}
 use Rattle.answering.proofs.Fitting.{Fits, reader-fits}

@@ -37,9 +37,9 @@ use denote.Triple.Statement.{Contract, Triple}
 use denote.Triple.Spec.{tripleOf}
 use denote.Triple.Clauses.{Clauses, Ended, Lasts, atExit, lasts, closing}
 use denote.Triple.Walked.{says}
-use Rattle.lines.specs.declared.Written.{Written}
-use Rattle.lines.proofs.WritesAnswer.{Wn}
-use Rattle.lines.specs.Writing.{Refuses}
+use Rattle.texts.specs.declared.Written.{Written}
+use Rattle.texts.proofs.WritesAnswer.{Wn}
+use Rattle.texts.specs.Writing.{Refuses}
 use Rattle.answering.proofs.write_refused as ref
 use Rattle.answering.proofs.write_refused.Symbol.{name as #refuse}
 use Rattle.answering.specs.Steps.{Framed}

@@ -18,15 +18,15 @@ use Rattle.meaning.specs.Tally.{Tally, pairTally}
 use Rattle.meaning.specs.Heap.{Heap, Cut, start, parted}
 use Rattle.links.specs.Links.{linkRows, linksRows, countRows, tableRows}
 use Rattle.links.proofs.LinksRows.{table-counted}
-use Rattle.cuts.specs.Record.{entrySize, cutsIn, cutsOf}
-use Rattle.replay.specs.Rows.{recordRow, recordRows, entryRows, entriesRows}
+use Rattle.cutting.specs.Record.{entrySize, cutsIn, cutsOf}
+use Rattle.cutting.specs.RecordRows.{recordRow, recordRows, entryRows, entriesRows}
 use Rattle.cutting.specs.Rows.{labelRow, spaceRow, groupingRows}
-use Rattle.cuts.proofs.Cuts.{length-cuts}
-use Rattle.stages.specs.declared.stage.Stage.{Stage}
-use Rattle.stages.specs.declared.stage.Stage.the-variants.{Opening}
+use Rattle.cutting.proofs.Cuts.{length-cuts}
+use Rattle.frames.specs.declared.stage.Stage.{Stage}
+use Rattle.frames.specs.declared.stage.Stage.the-variants.{Opening}
 use Rattle.frames.specs.Frame.{wellFormed, isHex, isKind, bytesOf}
-use Rattle.reading.specs.Lines.{Line, before, linesOf, lineRows}
-use Rattle.reading.specs.Reader.{readerRows}
+use Rattle.texts.specs.Lines.{Line, before, linesOf, lineRows}
+use Rattle.texts.specs.Reader.{readerRows}
 use Rattle.answering.specs.Steps.{Framed}
 
 unfoldable pub Fits : Judged → Type 0

@@ -18,13 +18,13 @@ use Rattle.meaning.specs.Heap.{Heap}
 use Rattle.meaning.proofs.Bytes.{bytes-cons, bytes-take, bytes-drop}
 use Rattle.meaning.proofs.Groups.{label-bone}
 use Rattle.meaning.proofs.Sums.{count-most}
-use Rattle.cuts.specs.Record.{entrySize}
+use Rattle.cutting.specs.Record.{entrySize}
 use Rattle.frames.specs.Frame.{line, lettered}
 use Rattle.frames.proofs.Letters.{letters-append, line-letters}
-use Rattle.reading.specs.Lines.{linesOf}
-use Rattle.reading.specs.Reader.{linksIn, entriesIn, bonesIn, thresholdIn, readerRows}
-use Rattle.lines.specs.declared.Written.{Written}
-use Rattle.lines.specs.Kinds.{two, headLine, cutLines, labelLine, labelLines, closeLine, refusalLine}
+use Rattle.texts.specs.Lines.{linesOf}
+use Rattle.texts.specs.Reader.{linksIn, entriesIn, bonesIn, thresholdIn, readerRows}
+use Rattle.texts.specs.declared.Written.{Written}
+use Rattle.texts.specs.Kinds.{two, headLine, cutLines, labelLine, labelLines, closeLine, refusalLine}
 use Rattle.answering.specs.Prints.{groupedRows, programRows, Result, Printed, Answering}
 use Rattle.answering.proofs.Fitting.{Fits, both-fit, reader-fits, grouping-fits}
 use Rattle.answering.proofs.Theorems.{settled-but-cuts, accepted-counts}

@@ -10,11 +10,11 @@ use ghost.Atoms.{Atoms}
 use types.Kit.{Given}
 use denote.Laws.{Is}
 use denote.Enum.Laws as EL
-use Rattle.reading.specs.declared.Reading.{Reading}
-use Rattle.reading.specs.declared.Reading.the-variants.{Got, Refused}
-use Rattle.reading.proofs.Reading as Rd
-use Rattle.reading.proofs.Reading.Laws as Rd′
-use Rattle.reading.proofs.ReadsRow.{D, reading}
+use Rattle.texts.specs.declared.Reading.{Reading}
+use Rattle.texts.specs.declared.Reading.the-variants.{Got, Refused}
+use Rattle.texts.proofs.Reading as Rd
+use Rattle.texts.proofs.Reading.Laws as Rd′
+use Rattle.texts.proofs.ReadsRow.{D, reading}
 
 pub typed-read : {M : Type 1} (𝓤 : URA M) (H : Heap 𝓤) (A : Atoms 𝓤) (W : Given 𝓤 H A) (r : Reading) (v : Val) → Is D r (v ∷ []) → T (hasTy reading v) × WT v
 typed-read 𝓤 H A W r v is = EL.lawful Rd.the-type Rd′.the-laws 𝓤 H A W tt .typed r (v ∷ []) is .0

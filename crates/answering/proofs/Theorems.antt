@@ -20,19 +20,19 @@ use Rattle.meaning.proofs.Sums.{count-most}
 use Rattle.meaning.proofs.Theorems.{names-are-labels, cuts-and-groups}
 use Rattle.links.specs.Links.{tableRows}
 use Rattle.links.proofs.LinksRows.{table-counted, accepted-left, accepted-right}
-use Rattle.cuts.specs.Record.{entrySize, cutsOf}
-use Rattle.cuts.proofs.Cuts.{length-cuts}
-use Rattle.cuts.proofs.Same.{same-bytes}
+use Rattle.cutting.specs.Record.{entrySize, cutsOf}
+use Rattle.cutting.proofs.Cuts.{length-cuts}
+use Rattle.cutting.proofs.Same.{same-bytes}
 use Rattle.cutting.specs.Rows.{groupingRows}
-use Rattle.reading.specs.Lines.{linesOf}
-use Rattle.reading.specs.Reader.{linksIn, entriesIn, bonesIn, thresholdIn, readerRows, put}
-use Rattle.lines.specs.declared.Written.{Written}
-use Rattle.lines.specs.declared.Written.the-variants.{Bytes, Refused as Refused·written}
-use Rattle.lines.specs.Kinds.{headLine, cutLines, labelLine, labelLines, closeLine, refusalLine}
-use Rattle.lines.specs.Writing.{wrote}
+use Rattle.texts.specs.Lines.{linesOf}
+use Rattle.texts.specs.Reader.{linksIn, entriesIn, bonesIn, thresholdIn, readerRows, put}
+use Rattle.texts.specs.declared.Written.{Written}
+use Rattle.texts.specs.declared.Written.the-variants.{Bytes, Refused as Refused·written}
+use Rattle.texts.specs.Kinds.{headLine, cutLines, labelLine, labelLines, closeLine, refusalLine}
+use Rattle.texts.specs.Writing.{wrote}
 use Rattle.texts.specs.Writers.{resultText}
 use Rattle.texts.proofs.Texts.{result-length}
-use Rattle.lines.proofs.WritesLines.{length-refusal}
+use Rattle.texts.proofs.WritesLines.{length-refusal}
 use Rattle.answering.specs.Prints.{groupedRows, programRows, Finishes, Result, Printed, shown, Answering}
 
 -- ---- a result text

@@ -12,13 +12,13 @@ use Rattle.meaning.specs.Bytes.{Bytes}
 use Rattle.meaning.specs.Judge.{refuse, first}
 use Rattle.meaning.specs.Tally.{pairTally}
 use Rattle.meaning.specs.Heap.{Cut, start, LawfulRun, left, finished}
-use Rattle.cuts.specs.Record.{entrySize, cutsOf}
+use Rattle.cutting.specs.Record.{entrySize, cutsOf}
 use Rattle.cutting.specs.Rows.{groupingRows}
-use Rattle.lines.specs.declared.Written.{Written}
-use Rattle.reading.specs.Lines.{linesOf}
-use Rattle.reading.specs.Reader.{linksIn, entriesIn, bonesIn, thresholdIn, readerRows}
-use Rattle.lines.specs.Kinds.{refusalLine}
-use Rattle.lines.specs.Writing.{Writes}
+use Rattle.texts.specs.declared.Written.{Written}
+use Rattle.texts.specs.Lines.{linesOf}
+use Rattle.texts.specs.Reader.{linksIn, entriesIn, bonesIn, thresholdIn, readerRows}
+use Rattle.texts.specs.Kinds.{refusalLine}
+use Rattle.texts.specs.Writing.{Writes}
 use Rattle.texts.specs.Writers.{resultText}
 
 -- what the program tries: what the reader tries, and on what was read what grouping tries; there is room for 4,096 links, 127 cuts and 128 labels

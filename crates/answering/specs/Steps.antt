@@ -6,11 +6,11 @@ use Rattle.meaning.specs.declared.Link.{Link}
 use Rattle.meaning.specs.Judge.{first}
 use Rattle.cutting.specs.declared.Answer.{Answer}
 use Rattle.cutting.specs.declared.Answer.the-variants.{Gave, Refused as Refused·answer}
-use Rattle.cuts.specs.Record.{entrySize}
-use Rattle.reading.specs.declared.Reading.{Reading}
-use Rattle.reading.specs.declared.Reading.the-variants.{Got, Refused as Refused·reading}
-use Rattle.lines.specs.declared.Written.{Written}
-use Rattle.lines.specs.Writing.{Writes, Refuses}
+use Rattle.cutting.specs.Record.{entrySize}
+use Rattle.texts.specs.declared.Reading.{Reading}
+use Rattle.texts.specs.declared.Reading.the-variants.{Got, Refused as Refused·reading}
+use Rattle.texts.specs.declared.Written.{Written}
+use Rattle.texts.specs.Writing.{Writes, Refuses}
 use Rattle.texts.specs.Writers.{resultText, resultRows}
 use Rattle.answering.specs.Prints.{groupedRows, Answers}
 

@@ -1,19 +1,19 @@
 // The program's one function, from bytes to bytes: an input text is read, its bones are grouped, and the result text is written; or the first refusal's
 // frame, alone. The functions over link records are proved by hand, so each only lends, and goes by one answer; numbers are left to covered ones.
-use cuts::record::Record;
-use cuts::size::size_of;
-use cuts::size::size_of_run;
 use cutting::Answer;
 use cutting::grouping_records;
+use cutting::record::Record;
+use cutting::size::size_of;
+use cutting::size::size_of_run;
 use meaning::Link;
-use reading::Reading;
-use reading::reader::read;
+use texts::Reading;
 use texts::Written;
+use texts::reader::read;
 use texts::refusal::write_refusal;
 use texts::result::write_result;
 ghost use lib.ListN.{length};
 ghost use Rattle.meaning.specs.Judge.{first};
-ghost use Rattle.lines.specs.Writing.{Refuses};
+ghost use Rattle.texts.specs.Writing.{Refuses};
 ghost use Rattle.answering.specs.Prints.{groupedRows, Answers, Answering};
 ghost use Rattle.answering.specs.Steps.{Framed, Held, AfterReading, Ready, AfterGrouping};
 

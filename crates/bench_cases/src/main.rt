@@ -44,11 +44,11 @@ fn say(verdict: Judged) {
 
 fn case(n: u64, k: u64, links: &[u8], names: &[u8; 128], name: u8, side: &[u8; 16]) {
     let mut table = [0u32; 16384];
-    say(weighing::fill(n, k, links, &mut table));
+    say(links::table::fill(n, k, links, &mut table));
     space();
     io::print_decimal(
         STDOUT_FILENO,
-        weighing::weigh(&table, names, n as usize, name, side),
+        weighing::side::weigh(&table, names, n as usize, name, side),
     );
     line();
 }
@@ -77,7 +77,7 @@ fn groups(n: u64, k: u64, links: &[u8]) -> u64 {
 
 fn seek(n: u64, k: u64, links: &[u8], names: &[u8; 128]) {
     let mut table = [0u32; 16384];
-    say(weighing::fill(n, k, links, &mut table));
+    say(links::table::fill(n, k, links, &mut table));
     let split = weighing::search::search(&mut table, names, n as usize, k, 0);
     let side = split.side;
     space();

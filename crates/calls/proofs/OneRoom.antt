@@ -26,7 +26,7 @@ use denote.Signature.{plain, shrSliceOf, mutSliceOf}
 use denote.Exit.{yes}
 use denote.Triple.Statement.{Triple}
 use Rattle.meaning.specs.declared.Link.{Link}
-use Rattle.stored.proofs.RecordsLink.{R}
+use Rattle.links.proofs.RecordsLink.{R}
 use Rattle.calls.proofs.Telling.{Call, Callee, Teller, Caller, Row, spelled, asks, tells}
 
 -- what is promised of n, k, the links, the record, the room at entry and at exit, and the answer

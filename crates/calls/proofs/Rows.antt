@@ -11,10 +11,10 @@ use Rattle.cutting.proofs.Answer as Answer
 use Rattle.cutting.proofs.Answer.Laws as Answer′
 use Rattle.cutting.proofs.Thinned as Thinned
 use Rattle.cutting.proofs.Thinned.Laws as Thinned′
-use Rattle.lines.proofs.Written as Written
-use Rattle.lines.proofs.Written.Laws as Written′
-use Rattle.reading.proofs.Reading as Reading
-use Rattle.reading.proofs.Reading.Laws as Reading′
+use Rattle.texts.proofs.Written as Written
+use Rattle.texts.proofs.Written.Laws as Written′
+use Rattle.texts.proofs.Reading as Reading
+use Rattle.texts.proofs.Reading.Laws as Reading′
 use Rattle.calls.proofs.told.Told as Told
 use Rattle.calls.proofs.told.Told.Laws as Told′
 use Rattle.calls.proofs.told.Count as Count

@@ -37,7 +37,7 @@ use denote.Triple.End.{Kepts, Fins, Outs, outs, lastsOf}
 use denote.Triple.Spec.{tripleOf}
 use denote.Triple.Clauses.{Clauses, Ended, closing}
 use denote.Triple.Table.{entered, cited}
-use Rattle.lent.proofs.RecordsCalls.{calls-to}
+use Rattle.links.proofs.RecordsCalls.{calls-to}
 use Rattle.calls.specs.Told.{Telling}
 
 -- ---- the contracts

@@ -10,9 +10,9 @@ use Rattle.meaning.specs.declared.Judged.{Judged}
 use Rattle.meaning.specs.Judge.{first}
 use Rattle.meaning.specs.Tally.{Tally, pairTally}
 use Rattle.meaning.specs.Firm.{groups}
-use Rattle.cuts.specs.Record.{entrySize}
-use Rattle.reading.specs.Reader.{Reads}
-use Rattle.lines.specs.Writing.{Writes}
+use Rattle.cutting.specs.Record.{entrySize}
+use Rattle.texts.specs.Reader.{Reads}
+use Rattle.texts.specs.Writing.{Writes}
 use Rattle.cutting.specs.Rows.{groupingRows}
 use Rattle.cutting.specs.Calls.{Checking, Grouping, Thins}
 use Rattle.cutting.proofs.Unique.{SameSpace, checking-unique, grouping-unique, thinning-unique}

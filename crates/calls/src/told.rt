@@ -1,7 +1,7 @@
 // What the calls from C tell: each answer in numbers. A number that says nothing where a call refused, or where it did not, is nought.
 use cutting::Answer;
 use cutting::Thinned;
-use reading::Reading;
+use texts::Reading;
 use texts::Written;
 ghost use mathlib.Core.Path.{_≡_};
 ghost use mathlib.Core.Bool.{cond};

@@ -11,7 +11,7 @@ use Rattle.meaning.specs.Tally.{Tally, weight}
 use Rattle.meaning.specs.Firm.{splits, firm, group, label, groups}
 use Rattle.meaning.specs.Heap.{Heap, Cut, LawfulRun, parted, pile, stands, finished}
 use Rattle.meaning.proofs.Firm.{weight-same}
-use Rattle.replay.specs.Rows.{entryRows, entriesRows}
+use Rattle.cutting.specs.RecordRows.{entryRows, entriesRows}
 
 abbrev pub Alike : ℕ → Tally → Tally → Type 0
 Alike n v w = (i j : ℕ) → i < n → j < n → v i j ≡ w i j

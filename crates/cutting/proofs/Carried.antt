@@ -17,16 +17,16 @@ use Rattle.meaning.specs.Firm.{groups}
 use Rattle.meaning.specs.Heap.{Heap, start, LawfulRun, left, piles, finished}
 use Rattle.meaning.proofs.Totals.{total-same}
 use Rattle.links.specs.Links.{countRows, tableRows}
-use Rattle.pairs.specs.Table.{held, filled}
+use Rattle.links.specs.Table.{held, filled}
 use Rattle.links.proofs.LinksBytes.{Short}
 use Rattle.links.proofs.LinksRows.{Counted, table-counted, table-proper, first-accepted, first-refused}
-use Rattle.pairs.proofs.TableHeld.{table-holds}
+use Rattle.links.proofs.TableHeld.{table-holds}
 use Rattle.weighing.specs.Search.{Small}
 use Rattle.cutting.specs.declared.Answer.{Answer}
-use Rattle.cuts.specs.Record.{entrySize, cutsOf}
-use Rattle.replay.specs.Rows.{recordRow, recordRows}
+use Rattle.cutting.specs.Record.{entrySize, cutsOf}
+use Rattle.cutting.specs.RecordRows.{recordRow, recordRows}
 use Rattle.cutting.specs.Rows.{labelRow, spaceRow, checkingRows, groupingRows}
-use Rattle.heaps.specs.Names.{settled, written}
+use Rattle.cutting.specs.Names.{settled, written}
 use Rattle.cutting.specs.Runs.{answered, Checked, Continued, Recorded, Grouped}
 use Rattle.cutting.proofs.Small.{links-total, length-tallied}
 use Rattle.cutting.proofs.Alike.{Alike, label-alike, groups-alike, finished-alike, entries-alike, run-alike}

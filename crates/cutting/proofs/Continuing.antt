@@ -15,16 +15,16 @@ use Rattle.meaning.specs.Judge.{first}
 use Rattle.meaning.specs.Tally.{Tally}
 use Rattle.meaning.specs.Firm.{label, groups}
 use Rattle.meaning.specs.Heap.{Heap, start, LawfulRun, left, piles, finished}
-use Rattle.pairs.specs.Side.{heapOf}
-use Rattle.cuts.specs.Record.{entrySize, cutsIn, cutsOf}
-use Rattle.replay.specs.Rows.{recordRow, recordRows}
+use Rattle.weighing.specs.Side.{heapOf}
+use Rattle.cutting.specs.Record.{entrySize, cutsIn, cutsOf}
+use Rattle.cutting.specs.RecordRows.{recordRow, recordRows}
 use Rattle.cutting.specs.Finish.{Begun, Ended}
-use Rattle.heaps.specs.Names.{written}
+use Rattle.cutting.specs.Names.{written}
 use Rattle.cutting.specs.Runs.{Continued}
-use Rattle.heaps.proofs.Names.{written-same}
-use Rattle.cuts.proofs.Cuts.{length-cuts, cuts-front, cuts-of}
-use Rattle.cuts.proofs.Narrow.{narrow-cuts}
-use Rattle.replay.proofs.Lawful.{row-accepted, entries-lawful}
+use Rattle.cutting.proofs.Names.{written-same}
+use Rattle.cutting.proofs.Cuts.{length-cuts, cuts-front, cuts-of}
+use Rattle.cutting.proofs.Narrow.{narrow-cuts}
+use Rattle.cutting.proofs.Lawful.{row-accepted, entries-lawful}
 use Rattle.cutting.proofs.Finish.{cuts-most, run-labels, run-groups, run-cuts}
 
 -- the names at the end are the labels

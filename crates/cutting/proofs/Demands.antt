@@ -21,16 +21,16 @@ use Rattle.links.specs.Links.{tableRows}
 use Rattle.links.proofs.LinksRows.{Counted, table-counted}
 use Rattle.cutting.specs.declared.Answer.{Answer}
 use Rattle.cutting.specs.declared.Answer.the-variants.{Gave, Refused as Refused·answer}
-use Rattle.cuts.specs.Record.{entrySize, cutsOf}
-use Rattle.replay.specs.Rows.{recordRows, entriesRows}
+use Rattle.cutting.specs.Record.{entrySize, cutsOf}
+use Rattle.cutting.specs.RecordRows.{recordRows, entriesRows}
 use Rattle.cutting.specs.Rows.{checkingRows, groupingRows}
-use Rattle.heaps.specs.Names.{settled, written}
+use Rattle.cutting.specs.Names.{settled, written}
 use Rattle.cutting.specs.Runs.{answered, Recorded, Continued}
 use Rattle.cutting.specs.Calls.{Checking, Grouping}
-use Rattle.heaps.proofs.Names.{written-same}
-use Rattle.cuts.proofs.Cuts.{length-cuts}
-use Rattle.cuts.proofs.Narrow.{narrow-cuts}
-use Rattle.replay.proofs.Lawful.{Stopped, entries-lawful, lawful-entries, entries-stop, record-fits}
+use Rattle.cutting.proofs.Names.{written-same}
+use Rattle.cutting.proofs.Cuts.{length-cuts}
+use Rattle.cutting.proofs.Narrow.{narrow-cuts}
+use Rattle.cutting.proofs.Lawful.{Stopped, entries-lawful, lawful-entries, entries-stop, record-fits}
 use Rattle.cutting.proofs.Finish.{cuts-most, run-labels, run-groups, run-cuts}
 use Rattle.cutting.proofs.Answers.{label-fits, space-fits}
 use Rattle.cutting.proofs.Carried.{checking-core, grouping-core}

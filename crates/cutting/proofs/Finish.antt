@@ -20,7 +20,7 @@ use Rattle.meaning.proofs.Firm.{firm-same}
 use Rattle.meaning.proofs.Heaps.{lawful-not-firm, Named, pile-intro, pile-bone, pile-name, parted-moved, parted-stays, named-start, piles-parted}
 use Rattle.meaning.proofs.Runs.{Reached, reached-start, reached-left, piles-left, piles-start, piles-groups, finished-labels}
 use Rattle.weighing.specs.declared.search.Split.{Split}
-use Rattle.pairs.specs.Table.{held}
+use Rattle.links.specs.Table.{held}
 use Rattle.weighing.specs.Search.{Small, FirmPiles, Searched, cutOf}
 
 module _ (n : ℕ) (w : Tally) (k : ℕ) (h : Heap) where

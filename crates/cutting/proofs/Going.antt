@@ -15,14 +15,14 @@ use Rattle.meaning.specs.Heap.{Heap, start, Cut, Lawful, LawfulRun, parted, lef
 use Rattle.meaning.proofs.Tests.{decide}
 use Rattle.meaning.proofs.Heaps.{Named}
 use Rattle.meaning.proofs.Runs.{left-append, run-append}
-use Rattle.pairs.specs.Side.{heapOf}
+use Rattle.weighing.specs.Side.{heapOf}
 use Rattle.weighing.specs.declared.search.Split.{Split}
 use Rattle.weighing.specs.Search.{FirmPiles, Searched, cutOf as splitCut}
-use Rattle.cuts.specs.declared.record.Entry.{Entry}
-use Rattle.cuts.specs.Record.{entrySize, entryBytes, entryPut, cutOf, cutsIn}
+use Rattle.cutting.specs.declared.record.Entry.{Entry}
+use Rattle.cutting.specs.Record.{entrySize, entryBytes, entryPut, cutOf, cutsIn}
 use Rattle.cutting.specs.Finish.{Begun, Ended, Going, Peeled}
-use Rattle.cuts.proofs.Entries.{put-whole, length-bytes, length-put, take-put}
-use Rattle.cuts.proofs.Cuts.{length-cuts, cuts-put}
+use Rattle.cutting.proofs.Entries.{put-whole, length-bytes, length-put, take-put}
+use Rattle.cutting.proofs.Cuts.{length-cuts, cuts-put}
 use Rattle.cutting.proofs.Finish.{firm-finished, firm-stays, firm-kept, reached, cuts-most, cuts-room}
 
 -- a lawful cut, of the first pile named `from` or more that has one

@@ -10,16 +10,16 @@ use Rattle.meaning.specs.declared.Judged.{Judged}
 use Rattle.meaning.specs.declared.Judged.the-variants.{Accepted, Refused}
 use Rattle.meaning.specs.Judge.{first}
 use Rattle.links.specs.Links.{countRows, tableRows}
-use Rattle.pairs.specs.Table.{held, filled}
+use Rattle.links.specs.Table.{held, filled}
 use Rattle.links.proofs.LinksBytes.{Short}
 use Rattle.weighing.specs.Search.{Small}
 use Rattle.cutting.specs.declared.Answer.{Answer}
-use Rattle.replay.specs.Rows.{recordRows}
+use Rattle.cutting.specs.RecordRows.{recordRows}
 use Rattle.cutting.specs.Rows.{labelRow, spaceRow}
-use Rattle.heaps.specs.Names.{settled, written}
+use Rattle.cutting.specs.Names.{settled, written}
 use Rattle.cutting.specs.Runs.{answered, Checked, Recorded, Grouped}
 use Rattle.cutting.specs.Calls.{Checking, Grouping}
-use Rattle.cuts.specs.Record.{cutsOf}
+use Rattle.cutting.specs.Record.{cutsOf}
 use Rattle.meaning.specs.Tally.{pairTally}
 use Rattle.meaning.specs.Heap.{start, left, piles, finished}
 use Rattle.meaning.specs.Firm.{label, groups}

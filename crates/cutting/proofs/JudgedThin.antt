@@ -16,12 +16,12 @@ use Rattle.meaning.specs.declared.Judged.the-variants.{Accepted, Refused}
 use Rattle.meaning.specs.Judge.{first}
 use Rattle.meaning.specs.Firm.{label}
 use Rattle.links.specs.Links.{tableRows}
-use Rattle.stored.specs.Records.{keptLinks, written}
-use Rattle.pairs.specs.Side.{heapOf}
-use Rattle.pairs.specs.Table.{held, filled}
+use Rattle.links.specs.Records.{keptLinks, written}
+use Rattle.weighing.specs.Side.{heapOf}
+use Rattle.links.specs.Table.{held, filled}
 use Rattle.links.proofs.LinksBytes.{Short}
 use Rattle.links.proofs.LinksRows.{never-both, table-counted, table-proper}
-use Rattle.replay.proofs.Lawful.{row-accepted}
+use Rattle.cutting.proofs.Lawful.{row-accepted}
 use Rattle.cutting.specs.Rows.{linkRow, thinningRows}
 use Rattle.cutting.specs.Thin.{refused}
 use Rattle.cutting.specs.Calls.{over, keeping, ThinningRecords}

@@ -17,17 +17,17 @@ use Rattle.meaning.specs.Judge.{refuse, first}
 use Rattle.meaning.specs.Tally.{Tally}
 use Rattle.meaning.specs.Firm.{label}
 use Rattle.meaning.specs.Heap.{Heap}
-use Rattle.pairs.specs.Side.{heapOf}
-use Rattle.stored.specs.Records.{sameLabel, keptLinks}
+use Rattle.weighing.specs.Side.{heapOf}
+use Rattle.links.specs.Records.{sameLabel, keptLinks}
 use Rattle.links.specs.Links.{linksOf, linkAt, tableRows}
 use Rattle.links.proofs.LinksBytes.{linksOf-next, linksOf-end}
-use Rattle.stored.proofs.RecordsKept.{kept-all, kept-most as kept-first}
+use Rattle.links.proofs.RecordsKept.{kept-all, kept-most as kept-first}
 use Rattle.links.proofs.LinksRows.{Propers, first-accepted, first-refused}
 use Rattle.cutting.specs.declared.Thinned.{Thinned}
 use Rattle.cutting.specs.declared.Thinned.the-variants.{Kept, Refused as Refused·thinned}
 use Rattle.cutting.specs.Rows.{linkRow, thinningRows}
-use Rattle.heaps.specs.Names.{settled, names}
-use Rattle.heaps.proofs.Names.{names-at}
+use Rattle.cutting.specs.Names.{settled, names}
+use Rattle.cutting.proofs.Names.{names-at}
 use Rattle.cutting.specs.Calls.{kept, linkBytes, over, keeping, Thins}
 use Rattle.cutting.specs.Thin.{Keeps}
 use Rattle.cutting.proofs.Alike.{Alike, label-alike}

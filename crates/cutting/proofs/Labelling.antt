@@ -14,8 +14,8 @@ use Rattle.meaning.specs.Firm.{label}
 use Rattle.meaning.specs.Heap.{Heap, start, LawfulRun, left, finished}
 use Rattle.links.specs.Links.{countRows}
 use Rattle.links.proofs.LinksRows.{counts-accepted}
-use Rattle.pairs.specs.Side.{heapOf}
-use Rattle.cuts.specs.Record.{entrySize, cutsIn}
+use Rattle.weighing.specs.Side.{heapOf}
+use Rattle.cutting.specs.Record.{entrySize, cutsIn}
 use Rattle.cutting.specs.Finish.{Begun, Ended}
 use Rattle.cutting.proofs.Finish.{run-labels}
 

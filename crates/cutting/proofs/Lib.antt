@@ -1,3 +1,14 @@
+-- The laws of the record of cuts.
+pub mod Entries
+pub mod Cuts
+pub mod Narrow
+pub mod Same
+-- The laws of heaps.
+pub mod Names
+pub mod Parting
+pub mod Renaming
+-- The laws of a replay.
+pub mod Lawful
 -- The laws of cutting.
 pub mod Alike
 pub mod Finish

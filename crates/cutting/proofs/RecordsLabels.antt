@@ -21,7 +21,7 @@ use denote.Memory.{partAt}
 use denote.Plain.{uint-vals, uint-tells, uint-makes, uint-copy, uint-lawful}
 use denote.RattleType.{RattleType}
 use denote.Builtin.{u8, Array}
-use Rattle.lent.proofs.Locals.{localTy, repeat-typed, lies-repeat, local-room}
+use Rattle.links.proofs.Locals.{localTy, repeat-typed, lies-repeat, local-room}
 
 abbrev pub Labels : RattleType
 Labels = Array u8 tt 128

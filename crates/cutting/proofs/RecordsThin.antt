@@ -40,17 +40,17 @@ use Rattle.meaning.specs.declared.Judged.{Judged}
 use Rattle.meaning.specs.declared.Judged.the-variants.{Accepted}
 use Rattle.meaning.specs.Judge.{first}
 use Rattle.meaning.specs.Firm.{label}
-use Rattle.stored.specs.Records.{keptLinks, written}
+use Rattle.links.specs.Records.{keptLinks, written}
 use Rattle.links.specs.Links.{countRows}
-use Rattle.pairs.specs.Side.{heapOf}
-use Rattle.pairs.specs.Table.{held}
+use Rattle.weighing.specs.Side.{heapOf}
+use Rattle.links.specs.Table.{held}
 use Rattle.weighing.specs.Search.{Small}
-use Rattle.stored.proofs.RecordsLink.{R, J, told, IsJudged, told-so, made-judged}
-use Rattle.lent.proofs.RecordsCalls.{calls-to}
-use Rattle.lent.proofs.RecordsRead.{Own}
-use Rattle.lent.proofs.RecordsTable.{Table, OwnTable}
-use Rattle.lent.proofs.keep_links as keeps
-use Rattle.lent.proofs.keep_links.Symbol.{name as #keep-links}
+use Rattle.links.proofs.RecordsLink.{R, J, told, IsJudged, told-so, made-judged}
+use Rattle.links.proofs.RecordsCalls.{calls-to}
+use Rattle.links.proofs.RecordsRead.{Own}
+use Rattle.links.proofs.RecordsTable.{Table, OwnTable}
+use Rattle.links.proofs.records.keep_links as keeps
+use Rattle.links.proofs.records.keep_links.Symbol.{name as #keep-links}
 use Rattle.cutting.specs.Rows.{linkRow}
 use Rattle.cutting.proofs.RecordsLabels.{Labels}
 use Rattle.cutting.proofs.records.label_judged as labels

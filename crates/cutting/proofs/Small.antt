@@ -16,8 +16,8 @@ use Rattle.meaning.proofs.Sums.{sum-ext, sum-mono, sum-zero, sum-add, sum-one}
 use Rattle.meaning.proofs.Totals.{Pairs}
 use Rattle.links.proofs.LinksBytes.{Short}
 use Rattle.links.proofs.LinksRows.{Propers}
-use Rattle.pairs.specs.Table.{tallied}
-use Rattle.pairs.proofs.TableHeld.{length-added}
+use Rattle.links.specs.Table.{tallied}
+use Rattle.links.proofs.TableHeld.{length-added}
 
 -- a link counts at a pair at most once in each direction of writing
 link-most : (p q r s t : Bool) (x y : ℕ) → cond t (cond ((p && q) || (r && s)) x 0 + y) 0 ≤ cond p (cond q x 0) 0 + cond s (cond r x 0) 0 + cond t y 0

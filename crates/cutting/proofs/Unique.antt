@@ -17,8 +17,8 @@ use Rattle.meaning.specs.Firm.{groups}
 use Rattle.meaning.proofs.Bytes.{bytes-take}
 use Rattle.links.specs.Links.{tableRows}
 use Rattle.links.proofs.LinksRows.{accepted-left}
-use Rattle.cuts.specs.Record.{entrySize, cutsOf}
-use Rattle.cuts.proofs.Same.{same-bytes}
+use Rattle.cutting.specs.Record.{entrySize, cutsOf}
+use Rattle.cutting.proofs.Same.{same-bytes}
 use Rattle.cutting.specs.declared.Answer.{Answer}
 use Rattle.cutting.specs.declared.Thinned.{Thinned}
 use Rattle.cutting.specs.Rows.{groupingRows}

@@ -14,8 +14,8 @@ use Rattle.cutting.specs.declared.Answer.{Answer}
 use Rattle.cutting.specs.Runs.{Checked, Grouped}
 use Rattle.cutting.specs.declared.Thinned.{Thinned}
 use Rattle.cutting.specs.declared.Thinned.the-variants.{Kept, Refused as Refused·thinned}
-use Rattle.stored.specs.Records.{keptLinks}
-use Rattle.heaps.specs.Names.{settled, names}
+use Rattle.links.specs.Records.{keptLinks}
+use Rattle.cutting.specs.Names.{settled, names}
 use Rattle.cutting.specs.Rows.{checkingRows, groupingRows, thinningRows}
 
 -- written to the front of lent room; the rest stays

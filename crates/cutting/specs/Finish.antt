@@ -6,10 +6,10 @@ use lib.Dec.{T}
 use lib.ListN.{length, take, drop}
 use Rattle.meaning.specs.Tally.{Tally}
 use Rattle.meaning.specs.Heap.{start, Lawful, LawfulRun, parted, left, finished}
-use Rattle.pairs.specs.Side.{heapOf}
+use Rattle.weighing.specs.Side.{heapOf}
 use Rattle.weighing.specs.declared.search.Split.{Split}
 use Rattle.weighing.specs.Search.{FirmPiles, cutOf as splitCut}
-use Rattle.cuts.specs.Record.{entrySize, cutsIn}
+use Rattle.cutting.specs.Record.{entrySize, cutsIn}
 
 -- the first cuts of the space are a lawful run that leaves the heap that the names mean; and there is room for all that may come
 pub record Begun (n : ℕ) (w : Tally) (k : ℕ) (names space : List ℕ) (cuts : ℕ) : Type 0 where

@@ -9,8 +9,8 @@ use Rattle.meaning.specs.declared.Judged.{Judged}
 use Rattle.meaning.specs.Judge.{refuse}
 use Rattle.meaning.specs.Tally.{pairTally}
 use Rattle.links.specs.Links.{tableRows}
-use Rattle.cuts.specs.Record.{entrySize}
-use Rattle.replay.specs.Rows.{recordRows}
+use Rattle.cutting.specs.Record.{entrySize}
+use Rattle.cutting.specs.RecordRows.{recordRows}
 
 -- 7: label space shorter than n. 8: record space shorter than n − 1 entries
 unfoldable pub labelRow : ℕ → ℕ → Judged

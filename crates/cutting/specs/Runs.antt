@@ -13,8 +13,8 @@ use Rattle.meaning.specs.Firm.{label, groups}
 use Rattle.meaning.specs.Heap.{Heap, start, piles, LawfulRun, left, finished}
 use Rattle.cutting.specs.declared.Answer.{Answer}
 use Rattle.cutting.specs.declared.Answer.the-variants.{Gave, Refused as Refused·answer}
-use Rattle.cuts.specs.Record.{entrySize, cutsOf}
-use Rattle.heaps.specs.Names.{settled, written}
+use Rattle.cutting.specs.Record.{entrySize, cutsOf}
+use Rattle.cutting.specs.Names.{settled, written}
 
 -- an answer: the refusal, or a number and whether the run is finished
 unfoldable pub answered : Judged → ℕ → Bool → Answer

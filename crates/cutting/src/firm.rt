@@ -1,9 +1,9 @@
 // A lawful run is gone on with until every pile is firm.
-use cuts::record::Entry;
-use cuts::record::Record;
-use cuts::record::write;
-use heaps::part;
-use pairs::numbers::wide;
+use crate::heap::part;
+use crate::record::Entry;
+use crate::record::Record;
+use crate::record::write;
+use links::numbers::wide;
 use weighing::degrees::degrees;
 use weighing::degrees::leave;
 use weighing::degrees::lone;
@@ -12,9 +12,9 @@ use weighing::search::search;
 ghost use mathlib.Core.Path.{_≡_};
 ghost use Prim.Native.Nat.{_<_, _≤_, _^_};
 ghost use lib.ListN.{length};
-ghost use Rattle.pairs.specs.Table.{held};
+ghost use Rattle.links.specs.Table.{held};
 ghost use Rattle.weighing.specs.Search.{Small, cutOf as splitCut};
-ghost use Rattle.cuts.specs.Record.{cutOf};
+ghost use Rattle.cutting.specs.Record.{cutOf};
 ghost use Rattle.cutting.specs.Finish.{Begun, Ended, Extended, Peeled};
 
 // The entry that states a split.

@@ -1,12 +1,17 @@
-// Cutting: checking, grouping and thinning, and the runs of cuts over a filled pair table that they are made of. The record of cuts is that of `cuts`.
+// Cutting: the record of cuts, heaps and a record replayed on them; then checking, grouping and thinning, and the runs of cuts over a filled pair table that
+// they are made of.
 mod check;
 mod firm;
 mod group;
+mod heap;
+mod judging;
+mod numbers;
+pub mod record;
 mod records;
+pub mod size;
 mod thin;
 
 pub use check::checking;
-pub use cuts::record;
 pub use group::grouping;
 pub use records::checking_records;
 pub use records::grouping_records;

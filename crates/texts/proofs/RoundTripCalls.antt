@@ -16,21 +16,21 @@ use Rattle.meaning.specs.Judge.{first}
 use Rattle.meaning.proofs.Tests.{fails, taut, so, _⊃_}
 use Rattle.links.specs.Links.{countRows, linksRows, tableRows}
 use Rattle.links.proofs.LinksRows.{first-accepted, accepted-left, accepted-right, counts-accepted}
-use Rattle.cuts.specs.Record.{entrySize}
-use Rattle.replay.specs.Rows.{recordRow}
-use Rattle.reading.specs.declared.Reading.{Reading}
-use Rattle.reading.specs.declared.Reading.the-variants.{Got}
-use Rattle.lines.specs.declared.Written.{Written}
-use Rattle.lines.specs.declared.Written.the-variants.{Bytes as Wrote}
-use Rattle.stages.specs.declared.stage.Stage.the-variants.{Opening}
-use Rattle.reading.specs.Lines.{Line, linesOf, lineRows}
-use Rattle.reading.specs.Reader.{linksIn, entriesIn, bonesIn, thresholdIn, readerRows, read, put, Reads}
-use Rattle.lines.specs.Writing.{wrote, Writes}
-use Rattle.inputs.specs.Inputs.{inputText, inputRows}
+use Rattle.cutting.specs.Record.{entrySize}
+use Rattle.cutting.specs.RecordRows.{recordRow}
+use Rattle.texts.specs.declared.Reading.{Reading}
+use Rattle.texts.specs.declared.Reading.the-variants.{Got}
+use Rattle.texts.specs.declared.Written.{Written}
+use Rattle.texts.specs.declared.Written.the-variants.{Bytes as Wrote}
+use Rattle.frames.specs.declared.stage.Stage.the-variants.{Opening}
+use Rattle.texts.specs.Lines.{Line, linesOf, lineRows}
+use Rattle.texts.specs.Reader.{linksIn, entriesIn, bonesIn, thresholdIn, readerRows, read, put, Reads}
+use Rattle.texts.specs.Writing.{wrote, Writes}
+use Rattle.texts.specs.Inputs.{inputText, inputRows}
 use Rattle.texts.specs.Writers.{unnoted}
 use Rattle.meaning.specs.Bytes.{Bytes}
-use Rattle.inputs.proofs.WritesRows.{row-accepted}
-use Rattle.inputs.proofs.WritesLinks.{length-input}
+use Rattle.texts.proofs.WritesRows.{row-accepted}
+use Rattle.texts.proofs.WritesLinks.{length-input}
 use Rattle.texts.proofs.RoundTripLines.{passes}
 use Rattle.texts.proofs.RoundTripWritten.{Smalls, Written as Fits, rows-passed, bones-back, threshold-back, links-back, entries-back}
 use Rattle.texts.proofs.RoundTripRead.{entries-whole, text-back}

@@ -10,12 +10,12 @@ use Rattle.meaning.specs.declared.Judged.{Judged}
 use Rattle.meaning.specs.Judge.{refuse, first}
 use Rattle.meaning.proofs.Tests.{eq→eqb}
 use Rattle.frames.specs.Frame.{payloads, isKind, byteSum, hex, line, wellFormed}
-use Rattle.stages.specs.declared.stage.Stage.{Stage}
-use Rattle.stages.specs.Stages.{follows, after}
-use Rattle.reading.specs.Lines.{Line, linesOf, frame, kind, pair, lineRows}
+use Rattle.frames.specs.declared.stage.Stage.{Stage}
+use Rattle.frames.specs.Stages.{follows, after}
+use Rattle.texts.specs.Lines.{Line, linesOf, frame, kind, pair, lineRows}
 use Rattle.meaning.specs.Bytes.{Bytes}
 use Rattle.frames.proofs.Frames.{whole, whole-bytes, whole-sum, line-means, line-well, isHex-hex}
-use Rattle.reading.proofs.Lines.{lines-ended, plain-digits}
+use Rattle.texts.proofs.Lines.{lines-ended, plain-digits}
 
 -- the line that a frame is written as
 abbrev pub lineOf : ℕ → List ℕ → Line
@@ -42,7 +42,7 @@ module _ (k : ℕ) (payload : List ℕ) (bytes : Bytes (k ∷ payload)) where
   unfolding frame
   frame-is = line-means k payload bytes
 
-  pub kind-is : Rattle.reading.specs.Lines.kind (lineOf k payload) ≡ k
+  pub kind-is : Rattle.texts.specs.Lines.kind (lineOf k payload) ≡ k
   unfolding kind
   kind-is = ap (λ (l : List ℕ). getD l 0 0) frame-is
 

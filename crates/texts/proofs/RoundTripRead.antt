@@ -13,19 +13,19 @@ use Rattle.meaning.specs.declared.Link.{Link}
 use Rattle.meaning.specs.declared.Judged.the-variants.{Accepted}
 use Rattle.meaning.specs.Judge.{first}
 use Rattle.meaning.proofs.Tests.{left-of, right-of, either, eq→eqb, neqb→ne, is-true, is-false, decide, taut, so, _⊃_}
-use Rattle.cuts.specs.Record.{entrySize}
+use Rattle.cutting.specs.Record.{entrySize}
 use Rattle.frames.specs.Frame.{payloads, byteSum, line, wellFormed}
-use Rattle.stages.specs.declared.stage.Stage.{Stage}
-use Rattle.stages.specs.declared.stage.Stage.the-variants.{Opening, Linking, Cutting, Closed}
-use Rattle.reading.specs.Lines.{Line, before, linesOf, frame, kind, pair, lineRows}
-use Rattle.stages.specs.Stages.{follows, after, open-at}
-use Rattle.reading.specs.Reader.{linkIn, linksIn, entryIn, entriesIn, bonesIn, thresholdIn}
-use Rattle.lines.specs.Kinds.{two, headLine, linkLine, linkLines, cutLines, closeLine}
-use Rattle.inputs.specs.Inputs.{inputText}
+use Rattle.frames.specs.declared.stage.Stage.{Stage}
+use Rattle.frames.specs.declared.stage.Stage.the-variants.{Opening, Linking, Cutting, Closed}
+use Rattle.texts.specs.Lines.{Line, before, linesOf, frame, kind, pair, lineRows}
+use Rattle.frames.specs.Stages.{follows, after, open-at}
+use Rattle.texts.specs.Reader.{linkIn, linksIn, entryIn, entriesIn, bonesIn, thresholdIn}
+use Rattle.texts.specs.Kinds.{two, headLine, linkLine, linkLines, cutLines, closeLine}
+use Rattle.texts.specs.Inputs.{inputText}
 use Rattle.texts.specs.Writers.{unnoted}
 use Rattle.meaning.specs.Bytes.{Bytes}
 use Rattle.frames.proofs.Frames.{bytes-bytesOf, well-parts, line-only}
-use Rattle.inputs.proofs.WritesRows.{row-accepted}
+use Rattle.texts.proofs.WritesRows.{row-accepted}
 
 -- a text is its lines, one behind the other
 pub joined : List Line → List ℕ

@@ -11,15 +11,15 @@ use Rattle.meaning.specs.declared.Link.{Link}
 use Rattle.meaning.specs.declared.Judged.the-variants.{Accepted}
 use Rattle.meaning.specs.Judge.{refuse, first}
 use Rattle.meaning.proofs.Tests.{eq→eqb}
-use Rattle.cuts.specs.Record.{entrySize}
+use Rattle.cutting.specs.Record.{entrySize}
 use Rattle.frames.specs.Frame.{isKind, line}
-use Rattle.stages.specs.declared.stage.Stage.{Stage}
-use Rattle.stages.specs.declared.stage.Stage.the-variants.{Opening, Linking, Cutting, Closed}
-use Rattle.reading.specs.Lines.{Line, linesOf, pair, lineRows}
-use Rattle.stages.specs.Stages.{follows, after, open-at}
-use Rattle.reading.specs.Reader.{linkIn, linksIn, entryIn, entriesIn, bonesIn, thresholdIn}
-use Rattle.lines.specs.Kinds.{two, headLine, linkLine, linkLines, cutLines, closeLine}
-use Rattle.inputs.specs.Inputs.{inputText}
+use Rattle.frames.specs.declared.stage.Stage.{Stage}
+use Rattle.frames.specs.declared.stage.Stage.the-variants.{Opening, Linking, Cutting, Closed}
+use Rattle.texts.specs.Lines.{Line, linesOf, pair, lineRows}
+use Rattle.frames.specs.Stages.{follows, after, open-at}
+use Rattle.texts.specs.Reader.{linkIn, linksIn, entryIn, entriesIn, bonesIn, thresholdIn}
+use Rattle.texts.specs.Kinds.{two, headLine, linkLine, linkLines, cutLines, closeLine}
+use Rattle.texts.specs.Inputs.{inputText}
 use Rattle.meaning.specs.Bytes.{Bytes}
 use Rattle.texts.proofs.RoundTripLines.{lineOf, first-line, frame-is, kind-is, pair-is, row-passed, not-not}
 

@@ -10,18 +10,18 @@ use Rattle.meaning.specs.declared.Link.{Link}
 use Rattle.meaning.specs.declared.Judged.{Judged}
 use Rattle.meaning.specs.declared.Judged.the-variants.{Accepted}
 use Rattle.meaning.specs.Judge.{first}
-use Rattle.cuts.specs.Record.{entrySize}
-use Rattle.reading.specs.declared.Reading.{Reading}
-use Rattle.reading.specs.declared.Reading.the-variants.{Got}
-use Rattle.lines.specs.declared.Written.{Written}
-use Rattle.lines.specs.declared.Written.the-variants.{Bytes as Wrote}
-use Rattle.reading.specs.Lines.{linesOf}
-use Rattle.reading.specs.Reader.{linksIn, entriesIn, bonesIn, thresholdIn, readerRows, Reads}
-use Rattle.lines.specs.Writing.{Writes}
-use Rattle.inputs.specs.Inputs.{inputText, inputRows}
+use Rattle.cutting.specs.Record.{entrySize}
+use Rattle.texts.specs.declared.Reading.{Reading}
+use Rattle.texts.specs.declared.Reading.the-variants.{Got}
+use Rattle.texts.specs.declared.Written.{Written}
+use Rattle.texts.specs.declared.Written.the-variants.{Bytes as Wrote}
+use Rattle.texts.specs.Lines.{linesOf}
+use Rattle.texts.specs.Reader.{linksIn, entriesIn, bonesIn, thresholdIn, readerRows, Reads}
+use Rattle.texts.specs.Writing.{Writes}
+use Rattle.texts.specs.Inputs.{inputText, inputRows}
 use Rattle.texts.specs.Writers.{resultText, unnoted}
 use Rattle.meaning.specs.Bytes.{Bytes}
-use Rattle.inputs.proofs.WritesLinks.{length-input}
+use Rattle.texts.proofs.WritesLinks.{length-input}
 use Rattle.texts.proofs.WritesTexts.{length-result}
 use Rattle.texts.proofs.RoundTripWritten.{Smalls}
 use Rattle.texts.proofs.RoundTripRead.{text-back}

@@ -14,11 +14,11 @@ use Rattle.meaning.specs.Judge.{refuse, first}
 use Rattle.meaning.specs.Tally.{pairTally}
 use Rattle.links.specs.Links.{tableRows}
 use Rattle.links.proofs.LinksRows.{table-counted, accepted-left, accepted-right}
-use Rattle.stored.specs.Records.{firstOf}
-use Rattle.pairs.specs.Side.{heapOf}
-use Rattle.heaps.specs.Names.{settled, written}
-use Rattle.heaps.proofs.Names.{names-at}
-use Rattle.replay.specs.Rows.{recordRows}
+use Rattle.links.specs.Records.{firstOf}
+use Rattle.weighing.specs.Side.{heapOf}
+use Rattle.cutting.specs.Names.{settled, written}
+use Rattle.cutting.proofs.Names.{names-at}
+use Rattle.cutting.specs.RecordRows.{recordRows}
 use Rattle.cutting.specs.declared.Answer.{Answer}
 use Rattle.cutting.specs.Rows.{labelRow, checkingRows}
 use Rattle.cutting.specs.Runs.{namesLeft, answered}
@@ -26,11 +26,11 @@ use Rattle.cutting.specs.Calls.{Checking}
 use Rattle.cutting.proofs.Answers.{label-fits}
 use Rattle.cutting.proofs.Carried.{checking-core, checking-stop}
 use Rattle.cutting.proofs.Continuing.{record-sound}
-use Rattle.lines.specs.declared.Written.{Written}
-use Rattle.lines.specs.Writing.{Writes}
+use Rattle.texts.specs.declared.Written.{Written}
+use Rattle.texts.specs.Writing.{Writes}
 use Rattle.texts.specs.Writers.{resultText, resultRows}
-use Rattle.texts.specs.Writing.{Named, judgedOf}
-use Rattle.texts.proofs.WritesRows.{result-rows}
+use Rattle.texts.specs.ResultSteps.{Named, judgedOf}
+use Rattle.texts.proofs.ResultRows.{result-rows}
 
 -- what was answered says what the rows came to
 judged-so : (j : Judged) (count : ℕ) (done : Bool) (r : Answer) → r ≡ answered j count done → judgedOf r ≡ j

@@ -6,15 +6,15 @@ use mathlib.Core.List.{List, _++_}
 use native.Mathlib.Omega.{arith}
 use lib.ListN.{length, length-append}
 use Rattle.meaning.specs.Heap.{start, left}
-use Rattle.pairs.specs.Side.{heapOf}
-use Rattle.cuts.specs.Record.{entrySize, cutsOf}
-use Rattle.placing.specs.Placing.{over, Puts}
-use Rattle.placing.proofs.Writes.{onto, length-over}
-use Rattle.placing.proofs.Places.{puts-fit}
-use Rattle.lines.specs.Kinds.{headLine, cutLines, labelLines, closeLine}
-use Rattle.lines.proofs.WritesLines.{labels-same, length-head, length-cuts, length-labels, length-close}
+use Rattle.weighing.specs.Side.{heapOf}
+use Rattle.cutting.specs.Record.{entrySize, cutsOf}
+use Rattle.frames.specs.Placing.{over, Puts}
+use Rattle.frames.proofs.Writes.{onto, length-over}
+use Rattle.frames.proofs.Places.{puts-fit}
+use Rattle.texts.specs.Kinds.{headLine, cutLines, labelLines, closeLine}
+use Rattle.texts.proofs.WritesLines.{labels-same, length-head, length-cuts, length-labels, length-close}
 use Rattle.texts.specs.Writers.{resultText}
-use Rattle.texts.specs.Writing.{Named}
+use Rattle.texts.specs.ResultSteps.{Named}
 
 pub length-result : (n k : ℕ) (bytes : List ℕ) → length (resultText n k bytes) ≡ 20 + 47 * (length bytes / entrySize) + 9 * n
 unfolding resultText

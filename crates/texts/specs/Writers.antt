@@ -9,11 +9,11 @@ use Rattle.meaning.specs.declared.Judged.{Judged}
 use Rattle.meaning.specs.Judge.{refuse}
 use Rattle.meaning.specs.Tally.{pairTally}
 use Rattle.links.specs.Links.{tableRows}
-use Rattle.cuts.specs.Record.{entrySize}
+use Rattle.cutting.specs.Record.{entrySize}
 use Rattle.cutting.specs.Runs.{namesLeft}
-use Rattle.replay.specs.Rows.{recordRows}
-use Rattle.reading.specs.Lines.{Line, kind}
-use Rattle.lines.specs.Kinds.{headLine, cutLines, labelLines, closeLine}
+use Rattle.cutting.specs.RecordRows.{recordRows}
+use Rattle.texts.specs.Lines.{Line, kind}
+use Rattle.texts.specs.Kinds.{headLine, cutLines, labelLines, closeLine}
 
 -- a result text: head, the record's cuts, the pile names that they leave, close
 unfoldable pub resultText : ℕ → ℕ → List ℕ → List ℕ

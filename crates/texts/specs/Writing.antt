@@ -1,24 +1,26 @@
--- What the result writer's parts promise each other.
-use Prim.Native.Nat.{ℕ, _/_, _≤_, _<_}
+-- What a writer answers and leaves, by what its rows come to.
+use Prim.Native.Nat.{ℕ}
 use mathlib.Core.Path.{_≡_}
 use mathlib.Core.List.{List}
+use lib.Dec.{ltb}
 use lib.ListN.{length}
 use Rattle.meaning.specs.declared.Judged.{Judged}
 use Rattle.meaning.specs.declared.Judged.the-variants.{Accepted, Refused}
-use Rattle.pairs.specs.Side.{heapOf}
-use Rattle.cuts.specs.Record.{entrySize}
-use Rattle.cutting.specs.declared.Answer.{Answer}
-use Rattle.cutting.specs.declared.Answer.the-variants.{Gave, Refused as Refused·answer}
-use Rattle.cutting.specs.Runs.{namesLeft}
+use Rattle.meaning.specs.Judge.{refuse}
+use Rattle.texts.specs.Reader.{put}
+use Rattle.texts.specs.declared.Written.{Written}
+use Rattle.texts.specs.declared.Written.the-variants.{Bytes, Refused as Refused·written}
+use Rattle.texts.specs.Kinds.{refusalLine}
 
--- what the result writer has found when rows 1 to 13 are passed: numbers in range, and the names that the record's cuts leave
-pub record Named (n k : ℕ) (bytes names : List ℕ) : Type 0 where
-  pub bones : n ≤ 128
-  pub threshold : k < 65536
-  pub cuts : length bytes / entrySize ≤ 127
-  pub names-of : (b : ℕ) → b < n → heapOf names b ≡ namesLeft n bytes b
+unfoldable pub wrote : Judged → ℕ → Written
+wrote Accepted count = Bytes count
+wrote (Refused number place) count = Refused·written number place
 
--- what checking's answer says of the rows that it tries
-unfoldable pub judgedOf : Answer → Judged
-judgedOf (Gave count finished) = Accepted
-judgedOf (Refused·answer number place) = Refused number place
+-- a writer with those rows, that text and that room
+pub record Writes (rows : Judged) (text room room′ : List ℕ) (r : Written) : Type 0 where
+  pub answer : r ≡ wrote rows (length text)
+  pub text-left : room′ ≡ put rows text room
+
+-- the frame of a refusal is written, where there is room
+abbrev pub Refuses : ℕ → ℕ → List ℕ → List ℕ → Written → Type 0
+Refuses number place room room′ r = Writes (refuse (ltb (length room) (length (refusalLine number place))) 20 0) (refusalLine number place) room room′ r

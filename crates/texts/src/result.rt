@@ -1,17 +1,17 @@
 // The result writer: head, the record's cuts, the pile names that checking gives, close. Its links are lent as records, so the writer itself is proved by
 // hand: it checks the record, and leaves the rest to a function of what checking answered.
-use cuts::record::Record;
+use crate::Written;
+use crate::kinds::put_close;
+use crate::kinds::put_cuts;
+use crate::kinds::put_head;
+use crate::kinds::put_labels;
 use cutting::Answer;
 use cutting::checking_records;
+use cutting::record::Record;
 use frames::frame::CLOSE_LINE;
 use frames::frame::CUT_LINE;
 use frames::frame::HEAD_LINE;
 use frames::frame::LABEL_LINE;
-use lines::Written;
-use lines::kinds::put_close;
-use lines::kinds::put_cuts;
-use lines::kinds::put_head;
-use lines::kinds::put_labels;
 use meaning::Link;
 ghost use mathlib.Core.Path.{_≡_};
 ghost use Prim.Native.Nat.{_+_, _*_, _≤_, _<_};
@@ -20,11 +20,11 @@ ghost use lib.ListN.{length};
 ghost use Rattle.frames.specs.Frame.{lineSize};
 ghost use Rattle.meaning.specs.Judge.{refuse, first};
 ghost use Rattle.meaning.specs.declared.Judged.the-variants.{Accepted};
-ghost use Rattle.stored.specs.Records.{firstOf};
-ghost use Rattle.lines.specs.Writing.{Writes};
+ghost use Rattle.links.specs.Records.{firstOf};
+ghost use Rattle.texts.specs.Writing.{Writes};
 ghost use Rattle.texts.specs.Writers.{resultText, resultRows};
-ghost use Rattle.placing.specs.Placing.{over};
-ghost use Rattle.texts.specs.Writing.{Named, judgedOf};
+ghost use Rattle.frames.specs.Placing.{over};
+ghost use Rattle.texts.specs.ResultSteps.{Named, judgedOf};
 
 // The lines around cuts and labels: head and close.
 const AROUND: usize = HEAD_LINE + CLOSE_LINE;

@@ -14,8 +14,8 @@ use Rattle.meaning.specs.Tally.{Tally, total, weight}
 use Rattle.meaning.proofs.Tests.{_⇒_, imp, taut, so, _⊃_, decide, left-of, right-of, neqb→ne, ne→neqb}
 use Rattle.meaning.proofs.Sums.{sum-ext, sum-add, sum-swap, sum-at}
 use Rattle.meaning.proofs.Totals.{Pairs, parts, Symmetric, total-mono, total-parts, total-same, total-ext, total-turn}
-use Rattle.pairs.specs.Table.{held}
-use Rattle.pairs.proofs.TableHeld.{held-symmetric}
+use Rattle.links.specs.Table.{held}
+use Rattle.links.proofs.TableHeld.{held-symmetric}
 use Rattle.weighing.specs.Merge.{touched, RowAdded}
 use Rattle.weighing.proofs.Taking.{total-two, total-one, same-beq, at-bone, cond-and, cond-out}
 

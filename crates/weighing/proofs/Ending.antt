@@ -18,8 +18,8 @@ use Rattle.meaning.proofs.Sums.{sum-ext, sum-zero}
 use Rattle.meaning.proofs.Totals.{Pairs, total-mono}
 use Rattle.meaning.proofs.Firm.{weight-other, splits-intro, splits-elim, firm-intro, firm-elim}
 use Rattle.meaning.proofs.Heaps.{pile-bone}
-use Rattle.pairs.specs.Table.{held}
-use Rattle.pairs.proofs.TableHeld.{held-symmetric}
+use Rattle.links.specs.Table.{held}
+use Rattle.links.proofs.TableHeld.{held-symmetric}
 use Rattle.weighing.specs.Search.{Small}
 use Rattle.weighing.proofs.Listing.{cond-no}
 use Rattle.weighing.proofs.Contracting.{bulk}

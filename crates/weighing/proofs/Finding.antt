@@ -11,8 +11,8 @@ use lib.ListN.{length, replicate, length-replicate}
 use Rattle.meaning.specs.Heap.{pile, stands}
 use Rattle.meaning.specs.Firm.{firm}
 use Rattle.meaning.proofs.Heaps.{pile-intro, pile-bone, pile-name}
-use Rattle.pairs.specs.Table.{held}
-use Rattle.pairs.specs.Side.{heapOf, sideOf}
+use Rattle.links.specs.Table.{held}
+use Rattle.weighing.specs.Side.{heapOf, sideOf}
 use Rattle.weighing.specs.Lists.{listed, Once, marked}
 use Rattle.weighing.specs.Scan.{Passed}
 use Rattle.weighing.specs.Merge.{Merges, none, more, unmarked, Laid}

@@ -1,3 +1,6 @@
+-- The laws of the pair table.
+pub mod Sides
+pub mod SideBytes
 -- Laws of the search.
 pub mod Listing
 pub mod Gathering

@@ -18,9 +18,9 @@ use Rattle.meaning.proofs.Totals.{Symmetric}
 use Rattle.meaning.proofs.Sets.{some-intro, some-elim, some-same}
 use Rattle.meaning.proofs.Firm.{weight-same, weight-other, weight-inside}
 use Rattle.meaning.proofs.Heaps.{pile-intro}
-use Rattle.pairs.specs.Side.{sideOf}
-use Rattle.pairs.specs.Weigh.{offSide, rowOf}
-use Rattle.pairs.proofs.Sides.{pile-below, rows, weight-rows}
+use Rattle.weighing.specs.Side.{sideOf}
+use Rattle.weighing.specs.Weigh.{offSide, rowOf}
+use Rattle.weighing.proofs.Sides.{pile-below, rows, weight-rows}
 use Rattle.weighing.proofs.Noting.{noughts}
 use Rattle.weighing.specs.Lists.{marked}
 use Rattle.weighing.specs.Degrees.{toward, others, mate, degree, joined, moves, Loosed}

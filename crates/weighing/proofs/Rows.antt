@@ -11,9 +11,9 @@ use lib.Dec.{T, eqb, eqb→eq, T-not}
 use lib.ListN.{length, getD}
 use Rattle.meaning.specs.Count.{Bones, some}
 use Rattle.meaning.proofs.Tests.{_⇒_, imp, taut, so, _⊃_, both, decide, either, left-of, right-of, or-left, or-right, eq→eqb, neqb→ne, ne→neqb}
-use Rattle.pairs.specs.Table.{held, raised}
-use Rattle.pairs.proofs.TableHeld.{held-symmetric}
-use Rattle.pairs.proofs.TableRaised.{length-raised, held-raised, raised-elsewhere, held-raised-apart, same-table}
+use Rattle.links.specs.Table.{held, raised}
+use Rattle.links.proofs.TableHeld.{held-symmetric}
+use Rattle.links.proofs.TableRaised.{length-raised, held-raised, raised-elsewhere, held-raised-apart, same-table}
 use Rattle.weighing.specs.Lists.{listed, Once}
 use Rattle.weighing.specs.Merge.{touched, NoSpot, Row, RowAdded, RowTaken}
 use Rattle.weighing.proofs.Listing.{with-one, listed-more, listed-not}

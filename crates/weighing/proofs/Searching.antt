@@ -17,7 +17,7 @@ use Rattle.meaning.specs.Firm.{splits, firm}
 use Rattle.meaning.proofs.Tests.{decide, same-test, eq→eqb}
 use Rattle.meaning.proofs.Sums.{sum-term}
 use Rattle.meaning.proofs.Firm.{weight-inside, splits-intro, splits-elim, firm-fails}
-use Rattle.pairs.specs.Table.{held}
+use Rattle.links.specs.Table.{held}
 use Rattle.weighing.specs.Lists.{listed, Once, marked}
 use Rattle.weighing.specs.Scan.{Tied, Passed}
 use Rattle.weighing.specs.Merge.{Merges, none, more, Folded, unmarked, Laid}

@@ -12,7 +12,7 @@ use lib.ListN.{length, getD, set, replicate}
 use lib.Seq.{getD-set-same, getD-set-other}
 use Rattle.meaning.specs.Count.{Bones}
 use Rattle.meaning.proofs.Tests.{either, or-left, or-right, decide, is-false, same-test, eq→eqb, neqb→ne, ne→neqb}
-use Rattle.pairs.specs.Side.{sideOf}
+use Rattle.weighing.specs.Side.{sideOf}
 use Rattle.weighing.proofs.Gathering.{last-or}
 use Rattle.weighing.proofs.Noting.{noughts}
 

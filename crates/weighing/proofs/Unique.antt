@@ -15,7 +15,7 @@ use Rattle.meaning.specs.Tally.{Tally}
 use Rattle.meaning.specs.Heap.{Heap, Lawful, stands}
 use Rattle.meaning.proofs.Tests.{decide}
 use Rattle.meaning.proofs.Heaps.{pile-bone, lawful-not-firm}
-use Rattle.pairs.proofs.SideBytes.{sides-same}
+use Rattle.weighing.proofs.SideBytes.{sides-same}
 use Rattle.weighing.specs.declared.search.Split.{Split}
 use Rattle.weighing.specs.Search.{cutOf, FirmPiles, Searched}
 use Rattle.weighing.specs.Degrees.{Noted, Lessened, Loosed}

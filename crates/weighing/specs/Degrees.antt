@@ -8,7 +8,7 @@ use lib.ListN.{length, getD, replicate}
 use Rattle.meaning.specs.Count.{Bones, sum, some}
 use Rattle.meaning.specs.Tally.{Tally}
 use Rattle.meaning.specs.Heap.{Heap, Lawful, pile, stands}
-use Rattle.pairs.specs.Side.{sideOf}
+use Rattle.weighing.specs.Side.{sideOf}
 use Rattle.weighing.specs.declared.search.Split.{Split}
 use Rattle.weighing.specs.Search.{cutOf}
 

@@ -7,7 +7,7 @@ use mathlib.Core.List.{List}
 use lib.Dec.{T, eqb}
 use lib.ListN.{length, getD}
 use Rattle.meaning.specs.Count.{Bones, count}
-use Rattle.pairs.specs.Table.{spot, held}
+use Rattle.links.specs.Table.{spot, held}
 use Rattle.weighing.specs.Lists.{listed, Once, marked}
 
 -- the pair (i, j) is one of a with a bone of R

@@ -9,8 +9,8 @@ use Rattle.weighing.specs.declared.search.Split.{Split}
 use Rattle.meaning.specs.Tally.{Tally, total}
 use Rattle.meaning.specs.Firm.{firm}
 use Rattle.meaning.specs.Heap.{Heap, Cut, Lawful, pile, stands}
-use Rattle.pairs.specs.Table.{held}
-use Rattle.pairs.specs.Side.{sideOf}
+use Rattle.links.specs.Table.{held}
+use Rattle.weighing.specs.Side.{sideOf}
 
 -- the cut that a split states
 unfoldable pub cutOf : Split → Cut

@@ -3,16 +3,16 @@
 use crate::moved::put;
 use crate::moved::side_of;
 use crate::search::Split;
-use pairs::numbers::bone;
-use pairs::numbers::wide;
-use pairs::table::tally_between;
+use links::numbers::bone;
+use links::numbers::wide;
+use links::table::tally_between;
 ghost use mathlib.Core.Path.{_≡_};
 ghost use mathlib.Core.Bool.{cond, not};
 ghost use Prim.Native.Nat.{ℕ, _+_, _*_, _%_, _^_, _≤_, _<_, min};
 ghost use Rattle.meaning.specs.Count.{some};
 ghost use Rattle.meaning.specs.Heap.{pile};
-ghost use Rattle.pairs.specs.Table.{held};
-ghost use Rattle.pairs.specs.Side.{heapOf, sideOf};
+ghost use Rattle.links.specs.Table.{held};
+ghost use Rattle.weighing.specs.Side.{heapOf, sideOf};
 ghost use Rattle.weighing.specs.Degrees.{others, mate, toward, Noted, Notes, share, parting, lost, Lessened, joined, loose, moves, Loosed, without};
 
 fn at_most_128(n: usize) -> usize

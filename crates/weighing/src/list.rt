@@ -1,11 +1,11 @@
 // The bones of a pile in a list, and how a list is laid out after a pass.
-use pairs::numbers::bone;
+use links::numbers::bone;
 ghost use mathlib.Core.Path.{_≡_};
 ghost use mathlib.Core.Bool.{cond};
 ghost use Prim.Native.Nat.{ℕ, _+_, _-_, _<_, _≤_};
 ghost use lib.ListN.{length, getD};
 ghost use Rattle.meaning.specs.Heap.{pile};
-ghost use Rattle.pairs.specs.Side.{heapOf};
+ghost use Rattle.weighing.specs.Side.{heapOf};
 ghost use Rattle.weighing.specs.Lists.{listed, Once, swapped};
 ghost use Rattle.weighing.specs.Merge.{unmarked, Laid};
 

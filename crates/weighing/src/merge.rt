@@ -1,8 +1,8 @@
 // Blocks are merged in the pair table while a pile is searched, and taken back out: the tallies of a bone go to those of its head.
-use pairs::numbers::bone;
-use pairs::table::lower_between;
-use pairs::table::raise_between;
-use pairs::table::tally_of;
+use links::numbers::bone;
+use links::table::lower_between;
+use links::table::raise_between;
+use links::table::tally_of;
 ghost use mathlib.Core.Path.{_≡_};
 ghost use mathlib.Core.List.{List};
 ghost use Prim.Native.Nat.{ℕ, _<_, _≤_};

@@ -1,12 +1,12 @@
 // The side of a light split: the free bones of a pass with all that were merged into them, as marks, and then as the bytes of a side.
-use pairs::numbers::bone;
+use links::numbers::bone;
 ghost use mathlib.Core.Path.{_≡_};
 ghost use mathlib.Core.Bool.{not, _&&_, _||_, Bool·beq};
 ghost use Prim.Native.Nat.{ℕ, _<_, _≤_};
 ghost use lib.Dec.{T, eqb};
 ghost use lib.ListN.{length, getD};
 ghost use Rattle.meaning.specs.Heap.{pile};
-ghost use Rattle.pairs.specs.Side.{heapOf, sideOf};
+ghost use Rattle.weighing.specs.Side.{heapOf, sideOf};
 ghost use Rattle.weighing.specs.Lists.{listed, Once, marked};
 ghost use Rattle.weighing.specs.Moved.{Spread};
 

@@ -1,14 +1,14 @@
 // One pass over the bones of a list: they are taken one by one, each time one with the greatest tally to those taken before, until the free ones
 // weigh less than k against those taken, or nothing is left to take.
 use crate::list::take;
-use pairs::numbers::bone;
-use pairs::table::tally_between;
+use links::numbers::bone;
+use links::table::tally_between;
 ghost use mathlib.Core.Path.{_≡_};
 ghost use mathlib.Core.Bool.{cond};
 ghost use Prim.Native.Nat.{ℕ, _+_, _<_, _≤_, _^_};
 ghost use lib.Dec.{leb};
 ghost use lib.ListN.{length, getD};
-ghost use Rattle.pairs.specs.Table.{held};
+ghost use Rattle.links.specs.Table.{held};
 ghost use Rattle.weighing.specs.Lists.{Once};
 ghost use Rattle.weighing.specs.Scan.{Looked, Reached, Passed};
 

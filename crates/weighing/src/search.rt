@@ -9,12 +9,12 @@ use crate::moved::side_of;
 use crate::moved::spread;
 use crate::scan::Pass;
 use crate::scan::scan;
-use pairs::numbers::bone;
+use links::numbers::bone;
 ghost use mathlib.Core.Path.{_≡_};
 ghost use Prim.Native.Nat.{min};
 ghost use lib.ListN.{length};
-ghost use Rattle.pairs.specs.Table.{held};
-ghost use Rattle.pairs.specs.Side.{heapOf};
+ghost use Rattle.links.specs.Table.{held};
+ghost use Rattle.weighing.specs.Side.{heapOf};
 ghost use Rattle.weighing.specs.Search.{Searched, Small};
 
 // A split that was found: a pile, the side that moves out (bone b is the bit worth 2 to the power b mod 8 of byte b div 8) and its

@@ -42,16 +42,16 @@ use denote.Triple.Walked.{says, needs, Stays, stay-none-slice, stay-none, gave-s
 use denote.Exit.{yes}
 use Rattle.meaning.specs.declared.Link.{Link}
 use Rattle.meaning.specs.Judge.{first as first-of}
-use Rattle.stored.proofs.RecordsLink.{R}
-use Rattle.lent.proofs.RecordsCalls.{calls-plain}
-use Rattle.lent.proofs.RecordsRead.{Own}
+use Rattle.links.proofs.RecordsLink.{R}
+use Rattle.links.proofs.RecordsCalls.{calls-plain}
+use Rattle.links.proofs.RecordsRead.{Own}
 use Rattle.cutting.specs.declared.Answer.{Answer}
 use Rattle.cutting.specs.declared.Answer.the-variants.{Gave, Refused}
-use Rattle.cuts.specs.Record.{entrySize}
-use Rattle.lines.specs.declared.Written.{Written}
-use Rattle.lines.specs.Writing.{Writes}
+use Rattle.cutting.specs.Record.{entrySize}
+use Rattle.texts.specs.declared.Written.{Written}
+use Rattle.texts.specs.Writing.{Writes}
 use Rattle.texts.specs.Writers.{resultText, resultRows}
-use Rattle.lines.proofs.WritesAnswer.{Wn, typed-held}
+use Rattle.texts.proofs.WritesAnswer.{Wn, typed-held}
 use Rattle.texts.proofs.result.write_result as res
 use Rattle.texts.proofs.result.write_result.Symbol as res-def
 use Rattle.texts.proofs.result.write_result.Symbol.{name as #write-result}
@@ -59,14 +59,14 @@ use Rattle.texts.proofs.result.write_result.Met as res-thm
 use Rattle.answering.specs.Steps.{Ready, AfterGrouping}
 use Rattle.texts.proofs.AnswerRow.{An, told, told-so, typed-answer, made-answer, refusal-fits, count-fits}
 use Rattle.answering.proofs.Calls.{Refuse, calls-to-last, calls-refuse, matches, lands-then}
-use Rattle.lent.proofs.Locals.{part-of, lends-front}
+use Rattle.links.proofs.Locals.{part-of, lends-front}
 use Rattle.answering.proofs.write_refused.Symbol as ref-def
 use Rattle.answering.proofs.write_refused.Symbol.{name as #refuse}
 use Rattle.answering.proofs.write_refused.Met as ref-thm
-use Rattle.cuts.proofs.size.size_of_run as siz
-use Rattle.cuts.proofs.size.size_of_run.Symbol as siz-def
-use Rattle.cuts.proofs.size.size_of_run.Symbol.{name as #size-of-run}
-use Rattle.cuts.proofs.size.size_of_run.Met as siz-thm
+use Rattle.cutting.proofs.size.size_of_run as siz
+use Rattle.cutting.proofs.size.size_of_run.Symbol as siz-def
+use Rattle.cutting.proofs.size.size_of_run.Symbol.{name as #size-of-run}
+use Rattle.cutting.proofs.size.size_of_run.Met as siz-thm
 use Rattle.answering.proofs.after_grouping.Key.{name as #after-grouping}
 use Rattle.answering.proofs.after_grouping as f
 use Rattle.answering.proofs.after_grouping.Statement as stated
@@ -227,6 +227,6 @@ after-grouping-spec 𝓤 H 𝓜 𝓖 𝓡 =
     (λ κs qs bounds a g are. needs 𝓤 _ _ (λ asked. walk 𝓤 H (𝓖 .A) W (𝓜 .mem) (𝓡 .run) (κs .0) (κs .1 .0) (κs .1 .1 .0) (qs .0) (qs .1 .0) (qs .1 .1 .0) (a .1 .0) (a .1 .1 .0) (a .1 .1 .1 .0) (a .1 .1 .1 .1 .0) (a .1 .1 .1 .1 .1 .0)
     (are .1 .0 .1) (are .1 .1 .0 .1) (are .1 .1 .1 .0 .0 .1) (are .1 .1 .1 .1 .0 .0 .1) (are .1 .1 .1 .1 .1 .0 .0 .1) 𝓣
     (cited 𝓤 H (Refuse 𝓤 H (𝓖 .A) (𝓜 .mem) (𝓡 .run)) 𝓜 𝓡 code.env #refuse ref-def.routine code.calls-answering·write-refused (ref-thm.met 𝓤 H 𝓜 𝓖 𝓡))
-    (cited 𝓤 H (SizeOf 𝓤 H (𝓖 .A) (𝓜 .mem) (𝓡 .run)) 𝓜 𝓡 code.env #size-of-run siz-def.routine code.calls-cuts·size·size-of-run (siz-thm.met 𝓤 H 𝓜 𝓖 𝓡))
+    (cited 𝓤 H (SizeOf 𝓤 H (𝓖 .A) (𝓜 .mem) (𝓡 .run)) 𝓜 𝓡 code.env #size-of-run siz-def.routine code.calls-cutting·size·size-of-run (siz-thm.met 𝓤 H 𝓜 𝓖 𝓡))
     (cited 𝓤 H (Result 𝓤 H (𝓖 .A) (𝓜 .mem) (𝓡 .run)) 𝓜 𝓡 code.env #write-result res-def.routine code.calls-texts·result·write-result (res-thm.met 𝓤 H 𝓜 𝓖 𝓡))
     (a .0) (are .0) asked))))

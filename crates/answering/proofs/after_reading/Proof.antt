@@ -41,27 +41,27 @@ use denote.Triple.Walked.{says, needs, Stays, stay-none-slice, stay-none, gave-s
 use denote.Exit.{yes}
 use Rattle.meaning.specs.declared.Link.{Link}
 use Rattle.meaning.specs.Judge.{first as first-of}
-use Rattle.stored.proofs.RecordsLink.{R, vals, tells, copied}
-use Rattle.lent.proofs.RecordsCalls.{calls-plain}
-use Rattle.lent.proofs.RecordsRead.{Own}
-use Rattle.cuts.specs.Record.{entrySize}
-use Rattle.reading.specs.declared.Reading.{Reading}
-use Rattle.reading.specs.declared.Reading.the-variants.{Got, Refused}
-use Rattle.lines.specs.declared.Written.{Written}
-use Rattle.reading.proofs.ReadsRow.{D, told, told-so, made-reading}
-use Rattle.lines.proofs.WritesAnswer.{Wn, typed-held}
+use Rattle.links.proofs.RecordsLink.{R, vals, tells, copied}
+use Rattle.links.proofs.RecordsCalls.{calls-plain}
+use Rattle.links.proofs.RecordsRead.{Own}
+use Rattle.cutting.specs.Record.{entrySize}
+use Rattle.texts.specs.declared.Reading.{Reading}
+use Rattle.texts.specs.declared.Reading.the-variants.{Got, Refused}
+use Rattle.texts.specs.declared.Written.{Written}
+use Rattle.texts.proofs.ReadsRow.{D, told, told-so, made-reading}
+use Rattle.texts.proofs.WritesAnswer.{Wn, typed-held}
 use Rattle.answering.specs.Prints.{groupedRows, Answers}
 use Rattle.answering.specs.Steps.{Held, AfterReading}
 use Rattle.answering.proofs.Calls.{Refuse, calls-to-last, calls-refuse, matches, lands-then}
-use Rattle.lent.proofs.Locals.{part-of, lends-front}
+use Rattle.links.proofs.Locals.{part-of, lends-front}
 use Rattle.answering.proofs.ReadingRow.{typed-read, refusal-fits, got-fits}
 use Rattle.answering.proofs.write_refused.Symbol as ref-def
 use Rattle.answering.proofs.write_refused.Symbol.{name as #refuse}
 use Rattle.answering.proofs.write_refused.Met as ref-thm
-use Rattle.cuts.proofs.size.size_of as siz
-use Rattle.cuts.proofs.size.size_of.Symbol as siz-def
-use Rattle.cuts.proofs.size.size_of.Symbol.{name as #size-of}
-use Rattle.cuts.proofs.size.size_of.Met as siz-thm
+use Rattle.cutting.proofs.size.size_of as siz
+use Rattle.cutting.proofs.size.size_of.Symbol as siz-def
+use Rattle.cutting.proofs.size.size_of.Symbol.{name as #size-of}
+use Rattle.cutting.proofs.size.size_of.Met as siz-thm
 use Rattle.answering.proofs.group_read as grp
 use Rattle.answering.proofs.group_read.Symbol as grp-def
 use Rattle.answering.proofs.group_read.Symbol.{name as #group-read}
@@ -244,6 +244,6 @@ after-reading-spec 𝓤 H 𝓜 𝓖 𝓡 =
     (λ κs qs bounds a g are. needs 𝓤 _ _ (λ asked. walk 𝓤 H (𝓖 .A) W (𝓜 .mem) (𝓡 .run) (κs .0) (κs .1 .0) (κs .1 .1 .0) (qs .0) (qs .1 .0) (qs .1 .1 .0) (a .1 .0) (a .1 .1 .0) (a .1 .1 .1 .0)
     (are .1 .0 .0 .1) (are .1 .1 .0 .0 .1) (are .1 .1 .1 .0 .0 .1) 𝓣
     (cited 𝓤 H (Refuse 𝓤 H (𝓖 .A) (𝓜 .mem) (𝓡 .run)) 𝓜 𝓡 code.env #refuse ref-def.routine code.calls-answering·write-refused (ref-thm.met 𝓤 H 𝓜 𝓖 𝓡))
-    (cited 𝓤 H (SizeOf 𝓤 H (𝓖 .A) (𝓜 .mem) (𝓡 .run)) 𝓜 𝓡 code.env #size-of siz-def.routine code.calls-cuts·size·size-of (siz-thm.met 𝓤 H 𝓜 𝓖 𝓡))
+    (cited 𝓤 H (SizeOf 𝓤 H (𝓖 .A) (𝓜 .mem) (𝓡 .run)) 𝓜 𝓡 code.env #size-of siz-def.routine code.calls-cutting·size·size-of (siz-thm.met 𝓤 H 𝓜 𝓖 𝓡))
     (cited 𝓤 H (Group 𝓤 H (𝓖 .A) (𝓜 .mem) (𝓡 .run)) 𝓜 𝓡 code.env #group-read grp-def.routine code.calls-answering·group-read (grp-thm.met 𝓤 H 𝓜 𝓖 𝓡))
     (a .0) (are .0) asked))))

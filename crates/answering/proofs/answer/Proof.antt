@@ -44,22 +44,22 @@ use denote.Exit.{yes}
 use Rattle.meaning.specs.declared.Link.{Link}
 use Rattle.meaning.proofs.Link as L
 use Rattle.meaning.proofs.Link.Laws as L′
-use Rattle.stored.specs.Records.{noLink}
-use Rattle.stored.proofs.RecordsLink.{R, val, vals, tells, no-link-is, typed, copied, made}
-use Rattle.lent.proofs.RecordsCalls.{calls-to}
-use Rattle.reading.specs.declared.Reading.{Reading}
-use Rattle.lines.specs.declared.Written.{Written}
-use Rattle.reading.specs.Reader.{Reads}
-use Rattle.reading.proofs.ReadsRow.{D, made-reading}
-use Rattle.lines.proofs.WritesAnswer.{Wn, typed-held}
-use Rattle.reading.proofs.reader.read as rea
-use Rattle.reading.proofs.reader.read.Symbol as rea-def
-use Rattle.reading.proofs.reader.read.Symbol.{name as #read}
-use Rattle.reading.proofs.reader.read.Met as rea-thm
+use Rattle.links.specs.Records.{noLink}
+use Rattle.links.proofs.RecordsLink.{R, val, vals, tells, no-link-is, typed, copied, made}
+use Rattle.links.proofs.RecordsCalls.{calls-to}
+use Rattle.texts.specs.declared.Reading.{Reading}
+use Rattle.texts.specs.declared.Written.{Written}
+use Rattle.texts.specs.Reader.{Reads}
+use Rattle.texts.proofs.ReadsRow.{D, made-reading}
+use Rattle.texts.proofs.WritesAnswer.{Wn, typed-held}
+use Rattle.texts.proofs.reader.read as rea
+use Rattle.texts.proofs.reader.read.Symbol as rea-def
+use Rattle.texts.proofs.reader.read.Symbol.{name as #read}
+use Rattle.texts.proofs.reader.read.Met as rea-thm
 use Rattle.answering.specs.Prints.{Answering}
 use Rattle.answering.specs.Steps.{Held, AfterReading}
 use Rattle.answering.proofs.AfterRead.{reading-held, reading-answers}
-use Rattle.lent.proofs.Locals.{localTy, here, OwnMut, OwnShared, Back, lends-mut, mut-back, lends-shared, shared-room, repeat-typed, lies-repeat, big-lit}
+use Rattle.links.proofs.Locals.{localTy, here, OwnMut, OwnShared, Back, lends-mut, mut-back, lends-shared, shared-room, repeat-typed, lies-repeat, big-lit}
 use Rattle.answering.proofs.ReadingRow.{typed-read}
 use Rattle.answering.proofs.after_reading as aft
 use Rattle.answering.proofs.after_reading.Symbol as aft-def
@@ -220,5 +220,5 @@ answer-spec 𝓤 H 𝓜 𝓖 𝓡 =
     (walked 𝓤 H (𝓖 .A) f.ended stayed (f.clauses 𝓤 H (𝓖 .A) (𝓜 .mem) (𝓡 .run)) (WpFn 𝓤 H (𝓣 .C) (𝓣 .Λ) code.function)
     (λ κs. (slice-vals, (slice-vals, tt))) (λ κs. (shr-slice-tells (named 0) (κs .0) u8, (mut-slice-tells (named 1) (κs .1 .0) u8, tt)))
     (λ κs qs bounds a g are. via 𝓤 _ (fst∗ 𝓤 _ (emp 𝓤)) (walk 𝓤 H (𝓖 .A) W (𝓜 .mem) (𝓡 .run) (κs .0) (κs .1 .0) (qs .0) (qs .1 .0) (a .0) (a .1 .0) (are .0 .0 .1) (are .1 .0 .0 .1) 𝓣
-    (cited 𝓤 H (Read 𝓤 H (𝓖 .A) (𝓜 .mem) (𝓡 .run)) 𝓜 𝓡 code.env #read rea-def.routine code.calls-reading·reader·read (rea-thm.met 𝓤 H 𝓜 𝓖 𝓡))
+    (cited 𝓤 H (Read 𝓤 H (𝓖 .A) (𝓜 .mem) (𝓡 .run)) 𝓜 𝓡 code.env #read rea-def.routine code.calls-texts·reader·read (rea-thm.met 𝓤 H 𝓜 𝓖 𝓡))
     (cited 𝓤 H (After 𝓤 H (𝓖 .A) (𝓜 .mem) (𝓡 .run)) 𝓜 𝓡 code.env #after-reading aft-def.routine code.calls-answering·after-reading (aft-thm.met 𝓤 H 𝓜 𝓖 𝓡))))))

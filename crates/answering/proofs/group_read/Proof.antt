@@ -44,22 +44,22 @@ use denote.Triple.Walked.{says, Stays, stay-none-slice, stay-none, gave-slice, w
 use denote.Exit.{yes}
 use Rattle.meaning.specs.declared.Link.{Link}
 use Rattle.meaning.specs.Judge.{first as first-of}
-use Rattle.stored.proofs.RecordsLink.{R}
-use Rattle.lent.proofs.RecordsCalls.{calls-to}
-use Rattle.lent.proofs.RecordsRead.{Own}
+use Rattle.links.proofs.RecordsLink.{R}
+use Rattle.links.proofs.RecordsCalls.{calls-to}
+use Rattle.links.proofs.RecordsRead.{Own}
 use Rattle.cutting.specs.declared.Answer.{Answer}
 use Rattle.cutting.specs.Calls.{Grouping}
 use Rattle.cutting.proofs.grouping_records as grp
 use Rattle.cutting.proofs.grouping_records.Symbol as grp-def
 use Rattle.cutting.proofs.grouping_records.Symbol.{name as #grouping-records}
 use Rattle.cutting.proofs.grouping_records.Met as grp-thm
-use Rattle.lines.specs.declared.Written.{Written}
-use Rattle.lines.proofs.WritesAnswer.{Wn, typed-held}
+use Rattle.texts.specs.declared.Written.{Written}
+use Rattle.texts.proofs.WritesAnswer.{Wn, typed-held}
 use Rattle.answering.specs.Prints.{groupedRows, Answers}
 use Rattle.answering.specs.Steps.{Ready, AfterGrouping}
 use Rattle.answering.proofs.AfterGroup.{grouping-ready, grouping-answers}
 use Rattle.texts.proofs.AnswerRow.{An, typed-answer, made-answer}
-use Rattle.lent.proofs.Locals.{localTy, here, OwnMut, OwnShared, Back, lends-mut, mut-back, lends-shared, local-room, shared-room, repeat-typed, lies-repeat, bytes-known, big-lit}
+use Rattle.links.proofs.Locals.{localTy, here, OwnMut, OwnShared, Back, lends-mut, mut-back, lends-shared, local-room, shared-room, repeat-typed, lies-repeat, bytes-known, big-lit}
 use Rattle.answering.proofs.after_grouping as aft
 use Rattle.answering.proofs.after_grouping.Symbol as aft-def
 use Rattle.answering.proofs.after_grouping.Symbol.{name as #after-grouping}

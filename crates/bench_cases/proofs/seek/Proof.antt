@@ -6,7 +6,7 @@ use lib.ListN.{length, take, length-replicate}
 use Rattle.meaning.specs.declared.Link.{Link}
 use Rattle.meaning.specs.declared.Judged.{Judged}
 use Rattle.meaning.specs.declared.Judged.the-variants.{Accepted, Refused}
-use Rattle.pairs.specs.Table.{filled}
+use Rattle.links.specs.Table.{filled}
 use Rattle.cutting.proofs.Small.{length-tallied}
 use borrow.Author.Needs.{needs}
 use Rattle.bench_cases.proofs.seek.Statement.{statement}

@@ -23,7 +23,7 @@ use denote.Ref.{RefT, now}
 use denote.Slice.{Room, sliceVal, slice-vals, shr-slice-tells, mut-slice-tells}
 use denote.Triple.Statement.{Triple}
 use Rattle.meaning.specs.declared.Link.{Link}
-use Rattle.stored.proofs.RecordsLink.{R}
+use Rattle.links.proofs.RecordsLink.{R}
 use Rattle.cutting.specs.Calls.{Grouping}
 use Rattle.cutting.proofs.Answer as Answer
 use Rattle.calls.specs.Told.{told}

@@ -21,7 +21,7 @@ use denote.Ref.{RefT, now}
 use denote.Slice.{Room, sliceVal, slice-vals, shr-slice-tells, mut-slice-tells}
 use denote.Triple.Statement.{Triple}
 use Rattle.meaning.specs.declared.Link.{Link}
-use Rattle.stored.proofs.RecordsLink.{R}
+use Rattle.links.proofs.RecordsLink.{R}
 use Rattle.cutting.specs.Calls.{ThinningRecords}
 use Rattle.cutting.proofs.Thinned as Thinned
 use Rattle.calls.specs.Told.{kept}

@@ -20,14 +20,14 @@ use denote.Ref.{RefT, now}
 use denote.Slice.{Room, sliceVal, slice-vals, shr-slice-tells, mut-slice-tells}
 use denote.Triple.Statement.{Triple}
 use Rattle.meaning.specs.declared.Link.{Link}
-use Rattle.stored.proofs.RecordsLink.{R}
-use Rattle.reading.specs.Reader.{Reads}
-use Rattle.reading.proofs.Reading as Reading
+use Rattle.links.proofs.RecordsLink.{R}
+use Rattle.texts.specs.Reader.{Reads}
+use Rattle.texts.proofs.Reading as Reading
 use Rattle.calls.specs.Told.{got}
 use Rattle.calls.proofs.told.Input as Input
-use Rattle.reading.proofs.reader.read.Symbol as g-def
-use Rattle.reading.proofs.reader.read.Symbol.{name as #g}
-use Rattle.reading.proofs.reader.read.Met as g-thm
+use Rattle.texts.proofs.reader.read.Symbol as g-def
+use Rattle.texts.proofs.reader.read.Symbol.{name as #g}
+use Rattle.texts.proofs.reader.read.Met as g-thm
 use Rattle.calls.proofs.told.tell_read.Symbol as t-def
 use Rattle.calls.proofs.told.tell_read.Symbol.{name as #t}
 use Rattle.calls.proofs.told.tell_read.Met as t-thm
@@ -86,4 +86,4 @@ unfolding code.routine
 bones-read-spec 𝓤 H 𝓜 𝓖 𝓡 =
     meets told-call 𝓤 H 𝓜 𝓖 𝓡 code.env #f #g #t code.function (code.unfolded 𝓤 H 𝓜 𝓡)
     (walk 𝓤 H (𝓖 .A) (givenOf 𝓤 H 𝓜 𝓖))
-    g-def.routine code.calls-reading·reader·read (g-thm.met 𝓤 H 𝓜 𝓖 𝓡) t-def.routine code.calls-calls·told·tell-read (t-thm.met 𝓤 H 𝓜 𝓖 𝓡)
+    g-def.routine code.calls-texts·reader·read (g-thm.met 𝓤 H 𝓜 𝓖 𝓡) t-def.routine code.calls-calls·told·tell-read (t-thm.met 𝓤 H 𝓜 𝓖 𝓡)

@@ -3,14 +3,14 @@
 use lib.ListN.{length}
 use contract.Running.{givenOf}
 use Rattle.meaning.specs.Judge.{first}
-use Rattle.lines.specs.Writing.{Writes}
-use Rattle.inputs.specs.Inputs.{inputRows, inputText}
-use Rattle.lines.proofs.Written as Written
+use Rattle.texts.specs.Writing.{Writes}
+use Rattle.texts.specs.Inputs.{inputRows, inputText}
+use Rattle.texts.proofs.Written as Written
 use Rattle.calls.specs.Told.{wrote}
 use Rattle.calls.proofs.told.Count as Count
-use Rattle.inputs.proofs.input.write_input.Symbol as g-def
-use Rattle.inputs.proofs.input.write_input.Symbol.{name as #g}
-use Rattle.inputs.proofs.input.write_input.Met as g-thm
+use Rattle.texts.proofs.input.write_input.Symbol as g-def
+use Rattle.texts.proofs.input.write_input.Symbol.{name as #g}
+use Rattle.texts.proofs.input.write_input.Met as g-thm
 use Rattle.calls.proofs.told.tell_written.Symbol as t-def
 use Rattle.calls.proofs.told.tell_written.Symbol.{name as #t}
 use Rattle.calls.proofs.told.tell_written.Met as t-thm
@@ -29,4 +29,4 @@ unfolding code.routine
 bones-write-input-spec 𝓤 H 𝓜 𝓖 𝓡 =
     meets (telling Written.the-row Count.the-row says wrote) 𝓤 H 𝓜 𝓖 𝓡 code.env #f #g #t code.function (code.unfolded 𝓤 H 𝓜 𝓡)
     (λ 𝓣. walk 𝓤 H (𝓖 .A) (givenOf 𝓤 H 𝓜 𝓖) 𝓣 (written-row 𝓤 H (𝓖 .A) (givenOf 𝓤 H 𝓜 𝓖)) (count-row 𝓤 H (𝓖 .A) (givenOf 𝓤 H 𝓜 𝓖)) says wrote #g #t)
-    g-def.routine code.calls-inputs·input·write-input (g-thm.met 𝓤 H 𝓜 𝓖 𝓡) t-def.routine code.calls-calls·told·tell-written (t-thm.met 𝓤 H 𝓜 𝓖 𝓡)
+    g-def.routine code.calls-texts·input·write-input (g-thm.met 𝓤 H 𝓜 𝓖 𝓡) t-def.routine code.calls-calls·told·tell-written (t-thm.met 𝓤 H 𝓜 𝓖 𝓡)

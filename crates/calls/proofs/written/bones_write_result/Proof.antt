@@ -3,9 +3,9 @@
 use lib.ListN.{length}
 use contract.Running.{givenOf}
 use Rattle.meaning.specs.Judge.{first}
-use Rattle.lines.specs.Writing.{Writes}
+use Rattle.texts.specs.Writing.{Writes}
 use Rattle.texts.specs.Writers.{resultRows, resultText}
-use Rattle.lines.proofs.Written as Written
+use Rattle.texts.proofs.Written as Written
 use Rattle.calls.specs.Told.{wrote}
 use Rattle.calls.proofs.told.Count as Count
 use Rattle.texts.proofs.result.write_result.Symbol as g-def

@@ -6,11 +6,11 @@ use Rattle.meaning.specs.declared.Judged.{Judged}
 use Rattle.meaning.specs.declared.Judged.the-variants.{Accepted}
 use Rattle.meaning.specs.Judge.{first}
 use Rattle.links.specs.Links.{countRows}
-use Rattle.pairs.specs.Table.{held}
+use Rattle.links.specs.Table.{held}
 use Rattle.links.proofs.LinksRows.{Counted, counts-accepted, first-accepted, first-refused}
-use Rattle.replay.specs.Rows.{recordRows}
-use Rattle.replay.proofs.Lawful.{few-rows}
-use Rattle.heaps.proofs.Parting.{judged-names}
+use Rattle.cutting.specs.RecordRows.{recordRows}
+use Rattle.cutting.proofs.Lawful.{few-rows}
+use Rattle.cutting.proofs.Parting.{judged-names}
 use Rattle.cutting.proofs.Answers.{label-short, label-fits, checked-refused, checked-accepted}
 use borrow.Author.Needs.{needs}
 use Rattle.cutting.proofs.check.check_table.Statement.{statement}

@@ -3,9 +3,9 @@ use Prim.Native.Nat.{ℕ, min}
 use mathlib.Core.Path.{_≡_, refl, _∙_, ap, ap₂}
 use native.Mathlib.Omega.{arith}
 use Rattle.meaning.specs.Heap.{piles}
-use Rattle.pairs.specs.Side.{heapOf}
-use Rattle.pairs.specs.Table.{held}
-use Rattle.heaps.specs.Names.{written}
+use Rattle.weighing.specs.Side.{heapOf}
+use Rattle.links.specs.Table.{held}
+use Rattle.cutting.specs.Names.{written}
 use Rattle.cutting.specs.declared.Answer.the-variants.{Gave}
 use Rattle.cutting.proofs.Finish.{searched-few, searched-finished}
 use borrow.Author.Needs.{needs}

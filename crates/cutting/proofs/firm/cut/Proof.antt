@@ -4,11 +4,11 @@ use mathlib.Core.Path.{sym, subst}
 use mathlib.Core.List.{List}
 use native.Mathlib.Omega.{arith}
 use Rattle.meaning.specs.Heap.{Cut, Lawful, parted}
-use Rattle.pairs.specs.Side.{heapOf}
+use Rattle.weighing.specs.Side.{heapOf}
 use Rattle.weighing.specs.Search.{FirmPiles}
-use Rattle.cuts.specs.Record.{cutOf}
-use Rattle.cuts.proofs.Narrow.{narrow-entry}
-use Rattle.heaps.proofs.Parting.{parted-names}
+use Rattle.cutting.specs.Record.{cutOf}
+use Rattle.cutting.proofs.Narrow.{narrow-entry}
+use Rattle.cutting.proofs.Parting.{parted-names}
 use Rattle.cutting.specs.Finish.{Going}
 use Rattle.cutting.proofs.Going.{going-next}
 use borrow.Author.Needs.{needs}

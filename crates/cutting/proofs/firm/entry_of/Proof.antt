@@ -2,7 +2,7 @@
 use mathlib.Core.Path.{refl, sym, _∙_}
 use lib.ListN.{length-map}
 use Rattle.weighing.specs.Search.{cutOf as splitCut}
-use Rattle.cuts.specs.Record.{cutOf}
+use Rattle.cutting.specs.Record.{cutOf}
 use borrow.Author.Needs.{needs}
 use Rattle.cutting.proofs.firm.entry_of.Statement.{statement}
 use Rattle.cutting.proofs.firm.entry_of.Tie as tie

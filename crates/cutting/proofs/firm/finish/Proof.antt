@@ -7,8 +7,8 @@ use native.Mathlib.Omega.{arith}
 use lib.ListN.{length}
 use borrow.Author.Tests.{not-true, not-false}
 use Rattle.meaning.specs.Heap.{parted}
-use Rattle.pairs.specs.Side.{heapOf}
-use Rattle.pairs.specs.Table.{held}
+use Rattle.weighing.specs.Side.{heapOf}
+use Rattle.links.specs.Table.{held}
 use Rattle.weighing.specs.Search.{Searched, FirmPiles, cutOf}
 use Rattle.cutting.specs.Finish.{Going, Peeled}
 use Rattle.cutting.proofs.Finish.{searched-few}

@@ -5,8 +5,8 @@ use native.Mathlib.Nat.{le-refl}
 use native.Mathlib.Omega.{arith}
 use borrow.Author.Tests.{not-false}
 use Rattle.meaning.specs.Heap.{Lawful}
-use Rattle.pairs.specs.Table.{held}
-use Rattle.pairs.specs.Side.{heapOf}
+use Rattle.links.specs.Table.{held}
+use Rattle.weighing.specs.Side.{heapOf}
 use Rattle.weighing.specs.Search.{cutOf}
 use Rattle.weighing.specs.Degrees.{Loosed}
 use Rattle.cutting.proofs.Going.{firm-peeled}

@@ -4,7 +4,7 @@ use mathlib.Core.Path.{_≡_, refl, _∙_, subst}
 use native.Mathlib.Nat.{le-refl}
 use native.Mathlib.Omega.{arith}
 use lib.ListN.{length}
-use Rattle.pairs.specs.Table.{held}
+use Rattle.links.specs.Table.{held}
 use Rattle.cutting.specs.Finish.{Peeled}
 use Rattle.cutting.proofs.Going.{peeled-none, peeled-on}
 use Rattle.cutting.proofs.firm.peel.Statement.{statement}

@@ -7,12 +7,12 @@ use native.Mathlib.Omega.{arith}
 use lib.ListN.{length}
 use lib.Seq.{paste}
 use Rattle.meaning.specs.Heap.{piles}
-use Rattle.pairs.specs.Side.{heapOf}
-use Rattle.pairs.specs.Table.{held}
-use Rattle.heaps.specs.Names.{written}
-use Rattle.cuts.proofs.Entries.{paste-fits}
+use Rattle.weighing.specs.Side.{heapOf}
+use Rattle.links.specs.Table.{held}
+use Rattle.cutting.specs.Names.{written}
+use Rattle.cutting.proofs.Entries.{paste-fits}
 use Rattle.cutting.specs.declared.Answer.the-variants.{Gave}
-use Rattle.cuts.specs.Record.{entrySize}
+use Rattle.cutting.specs.Record.{entrySize}
 use Rattle.cutting.specs.Finish.{Begun, Ended}
 use Rattle.cutting.proofs.Continuing.{record-sound, given-begins, ended-continued, ended-labels, ended-groups}
 use borrow.Author.Needs.{needs}

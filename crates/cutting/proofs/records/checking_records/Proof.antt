@@ -47,20 +47,20 @@ use Rattle.meaning.specs.declared.Judged.{Judged}
 use Rattle.meaning.specs.declared.Judged.the-variants.{Accepted}
 use Rattle.meaning.specs.Judge.{first as first-of}
 use Rattle.links.specs.Links.{countRows}
-use Rattle.pairs.specs.Table.{held, filled}
+use Rattle.links.specs.Table.{held, filled}
 use Rattle.weighing.specs.Search.{Small}
-use Rattle.stored.proofs.RecordsLink.{R, J, told, IsJudged, typed-judged, made-judged}
-use Rattle.lent.proofs.RecordsCalls.{calls-to}
-use Rattle.lent.proofs.RecordsRead.{Own}
-use Rattle.lent.proofs.RecordsShort.{learns-short}
-use Rattle.lent.proofs.RecordsTable.{Table, OwnTable}
-use Rattle.lent.proofs.RecordsLocal.{tableTy, noughts, noughts-typed, lies-noughts, lies-room}
-use Rattle.lent.proofs.RecordsFill.{FillRecords, calls-fill}
-use Rattle.lent.proofs.fill_records.Symbol as fill-def
-use Rattle.lent.proofs.fill_records.Symbol.{name as #fill-records}
-use Rattle.lent.proofs.fill_records.Met as fill-thm
+use Rattle.links.proofs.RecordsLink.{R, J, told, IsJudged, typed-judged, made-judged}
+use Rattle.links.proofs.RecordsCalls.{calls-to}
+use Rattle.links.proofs.RecordsRead.{Own}
+use Rattle.links.proofs.RecordsShort.{learns-short}
+use Rattle.links.proofs.RecordsTable.{Table, OwnTable}
+use Rattle.links.proofs.RecordsLocal.{tableTy, noughts, noughts-typed, lies-noughts, lies-room}
+use Rattle.links.proofs.RecordsFill.{FillRecords, calls-fill}
+use Rattle.links.proofs.records.fill_records.Symbol as fill-def
+use Rattle.links.proofs.records.fill_records.Symbol.{name as #fill-records}
+use Rattle.links.proofs.records.fill_records.Met as fill-thm
 use Rattle.cutting.specs.declared.Answer.{Answer}
-use Rattle.replay.specs.Rows.{recordRows}
+use Rattle.cutting.specs.RecordRows.{recordRows}
 use Rattle.cutting.specs.Rows.{labelRow}
 use Rattle.cutting.specs.Runs.{Checked}
 use Rattle.cutting.specs.Calls.{Checking}
@@ -183,5 +183,5 @@ checking-records-spec 𝓤 H 𝓜 𝓖 𝓡 =
     (λ κs. (uint-vals w64, (uint-vals w64, (slice-vals, (slice-vals, (slice-vals, tt)))))) (λ κs. (uint-tells w64, (uint-tells w64, (shr-slice-tells (named 0) (κs .0) R, (shr-slice-tells (named 1) (κs .1 .0) u8, (mut-slice-tells (named 2) (κs .1 .1 .0) u8, tt))))))
     (λ κs qs bounds a g are. via 𝓤 _ (fst∗ 𝓤 _ (emp 𝓤)) (walk 𝓤 H (𝓖 .A) W (𝓜 .mem) (𝓡 .run) (κs .0) (κs .1 .0) (κs .1 .1 .0) (qs .0) (qs .1 .0) (qs .1 .1 .0) (a .0) (a .1 .0) (a .1 .1 .0) (a .1 .1 .1 .0) (a .1 .1 .1 .1 .0)
     (are .0 .1) (are .1 .0 .1) (are .1 .1 .0 .0 .1) (are .1 .1 .1 .0 .0 .1) (are .1 .1 .1 .1 .0 .0 .1) 𝓣
-    (cited 𝓤 H (FillRecords 𝓤 H (𝓖 .A) (𝓜 .mem) (𝓡 .run)) 𝓜 𝓡 code.env #fill-records fill-def.routine code.calls-lent·fill-records (fill-thm.met 𝓤 H 𝓜 𝓖 𝓡))
+    (cited 𝓤 H (FillRecords 𝓤 H (𝓖 .A) (𝓜 .mem) (𝓡 .run)) 𝓜 𝓡 code.env #fill-records fill-def.routine code.calls-links·records·fill-records (fill-thm.met 𝓤 H 𝓜 𝓖 𝓡))
     (cited 𝓤 H (Core 𝓤 H (𝓖 .A) (𝓜 .mem) (𝓡 .run)) 𝓜 𝓡 code.env #check-judged core-def.routine code.calls-cutting·records·check-judged (core-thm.met 𝓤 H 𝓜 𝓖 𝓡))))))

@@ -47,23 +47,23 @@ use Rattle.meaning.specs.declared.Judged.the-variants.{Accepted}
 use Rattle.meaning.specs.Judge.{first as first-of}
 use Rattle.meaning.specs.Firm.{label}
 use Rattle.links.specs.Links.{tableRows}
-use Rattle.stored.specs.Records.{keptLinks, written}
-use Rattle.pairs.specs.Side.{heapOf}
-use Rattle.pairs.specs.Table.{held, filled}
+use Rattle.links.specs.Records.{keptLinks, written}
+use Rattle.weighing.specs.Side.{heapOf}
+use Rattle.links.specs.Table.{held, filled}
 use Rattle.links.proofs.LinksBytes.{Short}
-use Rattle.stored.proofs.RecordsLink.{R, judged, slice, IsJudged, told, typed-judged, made-judged}
-use Rattle.lent.proofs.RecordsCalls.{calls-plain}
-use Rattle.lent.proofs.RecordsRead.{Own}
-use Rattle.lent.proofs.RecordsShort.{learns-short}
-use Rattle.lent.proofs.RecordsTable.{Table}
-use Rattle.lent.proofs.RecordsLocal.{tableTy, noughts, noughts-typed, lies-noughts, lies-room}
-use Rattle.lent.proofs.RecordsFill.{FillRecords, calls-fill}
-use Rattle.lent.proofs.fill_records.Symbol as fill-def
-use Rattle.lent.proofs.fill_records.Symbol.{name as #fill-records}
-use Rattle.lent.proofs.fill_records.Met as fill-thm
-use Rattle.lent.proofs.keep_links.Symbol as keep-def
-use Rattle.lent.proofs.keep_links.Symbol.{name as #keep-links}
-use Rattle.lent.proofs.keep_links.Met as keep-thm
+use Rattle.links.proofs.RecordsLink.{R, judged, slice, IsJudged, told, typed-judged, made-judged}
+use Rattle.links.proofs.RecordsCalls.{calls-plain}
+use Rattle.links.proofs.RecordsRead.{Own}
+use Rattle.links.proofs.RecordsShort.{learns-short}
+use Rattle.links.proofs.RecordsTable.{Table}
+use Rattle.links.proofs.RecordsLocal.{tableTy, noughts, noughts-typed, lies-noughts, lies-room}
+use Rattle.links.proofs.RecordsFill.{FillRecords, calls-fill}
+use Rattle.links.proofs.records.fill_records.Symbol as fill-def
+use Rattle.links.proofs.records.fill_records.Symbol.{name as #fill-records}
+use Rattle.links.proofs.records.fill_records.Met as fill-thm
+use Rattle.links.proofs.records.keep_links.Symbol as keep-def
+use Rattle.links.proofs.records.keep_links.Symbol.{name as #keep-links}
+use Rattle.links.proofs.records.keep_links.Met as keep-thm
 use Rattle.cutting.specs.declared.Thinned.{Thinned}
 use Rattle.cutting.specs.Rows.{linkRow}
 use Rattle.cutting.specs.Thin.{refused}
@@ -256,8 +256,8 @@ thinning-records-spec 𝓤 H 𝓜 𝓖 𝓡 =
     (λ κs. (uint-vals w64, (uint-vals w64, (slice-vals, (slice-vals, tt))))) (λ κs. (uint-tells w64, (uint-tells w64, (shr-slice-tells (named 0) (κs .0) R, (mut-slice-tells (named 1) (κs .1 .0) R, tt)))))
     (λ κs qs bounds a g are. via 𝓤 _ (fst∗ 𝓤 _ (emp 𝓤)) (walk 𝓤 H (𝓖 .A) W (𝓜 .mem) (𝓡 .run) (κs .0) (κs .1 .0) (qs .0) (qs .1 .0) (a .0) (a .1 .0) (a .1 .1 .0) (a .1 .1 .1 .0)
     (are .0 .1) (are .1 .0 .1) (are .1 .1 .0 .0 .1) (are .1 .1 .1 .0 .0 .1) 𝓣
-    (cited 𝓤 H (FillRecords 𝓤 H (𝓖 .A) (𝓜 .mem) (𝓡 .run)) 𝓜 𝓡 code.env #fill-records fill-def.routine code.calls-lent·fill-records (fill-thm.met 𝓤 H 𝓜 𝓖 𝓡))
+    (cited 𝓤 H (FillRecords 𝓤 H (𝓖 .A) (𝓜 .mem) (𝓡 .run)) 𝓜 𝓡 code.env #fill-records fill-def.routine code.calls-links·records·fill-records (fill-thm.met 𝓤 H 𝓜 𝓖 𝓡))
     (cited 𝓤 H (LabelJudged 𝓤 H (𝓖 .A) (𝓜 .mem) (𝓡 .run)) 𝓜 𝓡 code.env #label-judged label-def.routine code.calls-cutting·records·label-judged (label-thm.met 𝓤 H 𝓜 𝓖 𝓡))
     (cited 𝓤 H (Refuses 𝓤 H (𝓖 .A) (𝓜 .mem) (𝓡 .run)) 𝓜 𝓡 code.env #refuses ref-def.routine code.calls-cutting·records·refuses (ref-thm.met 𝓤 H 𝓜 𝓖 𝓡))
-    (cited 𝓤 H (KeepLinks 𝓤 H (𝓖 .A) (𝓜 .mem) (𝓡 .run)) 𝓜 𝓡 code.env #keep-links keep-def.routine code.calls-lent·keep-links (keep-thm.met 𝓤 H 𝓜 𝓖 𝓡))
+    (cited 𝓤 H (KeepLinks 𝓤 H (𝓖 .A) (𝓜 .mem) (𝓡 .run)) 𝓜 𝓡 code.env #keep-links keep-def.routine code.calls-links·records·keep-links (keep-thm.met 𝓤 H 𝓜 𝓖 𝓡))
     (cited 𝓤 H (Tells 𝓤 H (𝓖 .A) (𝓜 .mem) (𝓡 .run)) 𝓜 𝓡 code.env #thinned thin-def.routine code.calls-cutting·records·thinned (thin-thm.met 𝓤 H 𝓜 𝓖 𝓡))))))

@@ -10,8 +10,8 @@ use borrow.Author.Tests.{not-true, not-false}
 use Rattle.meaning.specs.declared.Link.{Link}
 use Rattle.links.specs.Links.{linksOf, linkAt}
 use Rattle.links.proofs.LinksBytes.{linksOf-at}
-use Rattle.stored.specs.Records.{sameLabel}
-use Rattle.cuts.proofs.Entries.{paste-fits}
+use Rattle.links.specs.Records.{sameLabel}
+use Rattle.cutting.proofs.Entries.{paste-fits}
 use Rattle.cutting.proofs.Keeping.{keeps-not, keeps-it}
 use borrow.Author.Needs.{needs}
 use Rattle.cutting.proofs.thin.keep_link.Statement.{statement}

@@ -5,9 +5,9 @@ use mathlib.Core.List.{List}
 use native.Mathlib.Omega.{arith}
 use lib.ListN.{replicate, length-replicate}
 use borrow.Author.Needs.{needs}
-use Rattle.pairs.specs.Table.{held}
-use Rattle.heaps.proofs.Parting.{heap-start}
-use Rattle.cuts.specs.Record.{entrySize}
+use Rattle.links.specs.Table.{held}
+use Rattle.cutting.proofs.Parting.{heap-start}
+use Rattle.cutting.specs.Record.{entrySize}
 use Rattle.cutting.specs.Finish.{Begun, Ended}
 use Rattle.cutting.proofs.Labelling.{none-begun, ended-named}
 use Rattle.cutting.proofs.thin.name_groups.Statement.{statement}

@@ -1,8 +1,8 @@
 -- `result::result_after` meets its contract, by cases on what checking answered. Assumes nothing.
 use mathlib.Core.Path.{ap}
 use borrow.Author.Needs.{needs}
-use Rattle.texts.specs.Writing.{judgedOf}
-use Rattle.texts.proofs.WritesRows.{writes-refused, writes-after}
+use Rattle.texts.specs.ResultSteps.{judgedOf}
+use Rattle.texts.proofs.ResultRows.{writes-refused, writes-after}
 use Rattle.texts.proofs.result.result_after.Statement.{statement}
 use Rattle.texts.proofs.result.result_after.Tie as tie
 

@@ -3,7 +3,7 @@ use mathlib.Core.Path.{sym, _∙_}
 use native.Mathlib.Omega.{arith}
 use borrow.Author.Needs.{needs}
 use Rattle.texts.specs.Writers.{resultText}
-use Rattle.lines.proofs.Fronts.{writes-short, writes-whole}
+use Rattle.texts.proofs.Fronts.{writes-short, writes-whole}
 use Rattle.texts.proofs.WritesTexts.{length-result}
 use Rattle.texts.proofs.result.result_from.Statement.{statement}
 use Rattle.texts.proofs.result.result_from.Tie as tie

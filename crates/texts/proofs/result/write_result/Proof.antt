@@ -44,22 +44,22 @@ use denote.Exit.{yes}
 use Rattle.meaning.specs.declared.Link.{Link}
 use Rattle.meaning.specs.declared.Judged.the-variants.{Accepted}
 use Rattle.meaning.specs.Judge.{refuse, first as first-of}
-use Rattle.stored.specs.Records.{firstOf}
-use Rattle.stored.proofs.RecordsLink.{R}
-use Rattle.lent.proofs.RecordsCalls.{calls-to}
-use Rattle.lent.proofs.RecordsRead.{Own}
-use Rattle.lent.proofs.Locals.{localTy, here, OwnMut, lends-mut, mut-back, local-room, repeat-typed, lies-repeat}
+use Rattle.links.specs.Records.{firstOf}
+use Rattle.links.proofs.RecordsLink.{R}
+use Rattle.links.proofs.RecordsCalls.{calls-to}
+use Rattle.links.proofs.RecordsRead.{Own}
+use Rattle.links.proofs.Locals.{localTy, here, OwnMut, lends-mut, mut-back, local-room, repeat-typed, lies-repeat}
 use Rattle.cutting.specs.declared.Answer.{Answer}
 use Rattle.cutting.specs.Calls.{Checking}
 use Rattle.cutting.proofs.checking_records as chk
 use Rattle.cutting.proofs.checking_records.Symbol as chk-def
 use Rattle.cutting.proofs.checking_records.Symbol.{name as #checking-records}
 use Rattle.cutting.proofs.checking_records.Met as chk-thm
-use Rattle.lines.specs.declared.Written.{Written}
-use Rattle.lines.specs.Writing.{Writes}
-use Rattle.lines.proofs.WritesAnswer.{Wn, typed-held}
+use Rattle.texts.specs.declared.Written.{Written}
+use Rattle.texts.specs.Writing.{Writes}
+use Rattle.texts.proofs.WritesAnswer.{Wn, typed-held}
 use Rattle.texts.specs.Writers.{resultText, resultRows}
-use Rattle.texts.specs.Writing.{Named, judgedOf}
+use Rattle.texts.specs.ResultSteps.{Named, judgedOf}
 use Rattle.texts.proofs.AnswerRow.{An, typed-answer, made-answer}
 use Rattle.texts.proofs.WritesResult.{checked-named, checked-result}
 use Rattle.texts.proofs.result.result_after as aft

@@ -4,7 +4,7 @@ use mathlib.Core.Path.{sym, _∙_, ap}
 use mathlib.Core.Bool.{Bool, cond}
 use native.Mathlib.Omega.{arith}
 use borrow.Author.Tests.{eq-eqb, ne-eqb}
-use Rattle.pairs.specs.Side.{heapOf}
+use Rattle.weighing.specs.Side.{heapOf}
 use Rattle.weighing.specs.Degrees.{mate}
 use Rattle.weighing.proofs.Noting.{others-named}
 use borrow.Author.Needs.{needs}

@@ -7,7 +7,7 @@ use native.Mathlib.Omega.{arith}
 use Rattle.meaning.specs.Count.{some}
 use Rattle.meaning.proofs.Tests.{is-true, holds}
 use Rattle.meaning.proofs.Sets.{some-intro}
-use Rattle.pairs.specs.Side.{heapOf}
+use Rattle.weighing.specs.Side.{heapOf}
 use Rattle.weighing.specs.Degrees.{mate}
 use Rattle.weighing.proofs.Lone.{some-next}
 use Rattle.weighing.proofs.degrees.another.Statement.{statement}

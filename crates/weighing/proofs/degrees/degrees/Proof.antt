@@ -3,8 +3,8 @@
 use Prim.Native.Nat.{min, ℕ, _≤_, zero-le, _-_}
 use mathlib.Core.Path.{subst, _≡_, refl}
 use native.Mathlib.Omega.{arith}
-use Rattle.pairs.specs.Table.{held}
-use Rattle.pairs.specs.Side.{heapOf}
+use Rattle.links.specs.Table.{held}
+use Rattle.weighing.specs.Side.{heapOf}
 use Rattle.weighing.specs.Degrees.{Noted}
 use Rattle.weighing.proofs.Noting.{noted-none}
 use Rattle.weighing.proofs.degrees.degrees.Statement.{statement}

@@ -5,8 +5,8 @@ use mathlib.Core.Path.{_≡_, _∙_, ap}
 use mathlib.Core.Bool.{cond}
 use native.Mathlib.Omega.{arith}
 use lib.ListN.{getD}
-use Rattle.pairs.specs.Table.{spot, held}
-use Rattle.pairs.specs.Side.{heapOf}
+use Rattle.links.specs.Table.{spot, held}
+use Rattle.weighing.specs.Side.{heapOf}
 use Rattle.weighing.specs.Degrees.{mate}
 use Rattle.weighing.proofs.Noting.{product}
 use borrow.Author.Needs.{needs}

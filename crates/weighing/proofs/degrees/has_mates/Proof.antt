@@ -5,7 +5,7 @@ use native.Mathlib.Omega.{arith}
 use borrow.Author.Needs.{needs}
 use Rattle.meaning.specs.Heap.{stands}
 use Rattle.meaning.proofs.Heaps.{pile-bone, pile-name}
-use Rattle.pairs.specs.Side.{heapOf}
+use Rattle.weighing.specs.Side.{heapOf}
 use Rattle.weighing.proofs.Lone.{joined-yes, joined-no, joined-low, joined-stands}
 use Rattle.weighing.proofs.degrees.has_mates.Statement.{statement}
 use Rattle.weighing.proofs.degrees.has_mates.Tie as tie

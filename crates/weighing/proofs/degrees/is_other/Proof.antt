@@ -2,7 +2,7 @@
 -- Assumes nothing.
 use mathlib.Core.Path.{sym}
 use borrow.Author.Needs.{needs}
-use Rattle.pairs.specs.Side.{heapOf}
+use Rattle.weighing.specs.Side.{heapOf}
 use Rattle.weighing.proofs.Noting.{others-self, others-named}
 use Rattle.weighing.proofs.degrees.is_other.Statement.{statement}
 use Rattle.weighing.proofs.degrees.is_other.Tie as tie

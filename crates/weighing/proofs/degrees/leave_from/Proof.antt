@@ -5,9 +5,9 @@ use mathlib.Core.Path.{subst, _≡_, sym, _∙_, ap}
 use mathlib.Core.Logic.{⊎-elim}
 use mathlib.Core.List.{List}
 use native.Mathlib.Omega.{arith}
-use Rattle.pairs.proofs.TableHeld.{held-symmetric}
-use Rattle.pairs.specs.Table.{held}
-use Rattle.pairs.specs.Side.{heapOf}
+use Rattle.links.proofs.TableHeld.{held-symmetric}
+use Rattle.links.specs.Table.{held}
+use Rattle.weighing.specs.Side.{heapOf}
 use Rattle.weighing.specs.Degrees.{lost, Notes, Lessened}
 use Rattle.weighing.proofs.Noting.{less-same, less-none, less-then, lost-none, lost-next, lost-skip, lost-all, lostBy}
 use Rattle.weighing.proofs.degrees.leave_from.Statement.{statement}

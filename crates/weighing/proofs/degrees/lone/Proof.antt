@@ -8,9 +8,9 @@ use borrow.Author.Tests.{lt-ltb, le-ltb}
 use borrow.Author.Needs.{needs}
 use lib.Dec.{ltb}
 use Rattle.meaning.proofs.Tests.{holds}
-use Rattle.pairs.specs.Table.{held}
-use Rattle.pairs.specs.Side.{heapOf}
-use Rattle.pairs.proofs.TableHeld.{held-symmetric}
+use Rattle.links.specs.Table.{held}
+use Rattle.weighing.specs.Side.{heapOf}
+use Rattle.links.proofs.TableHeld.{held-symmetric}
 use Rattle.weighing.specs.declared.search.Split.{Split}
 use Rattle.weighing.specs.Degrees.{mate, degree, loose, Loosed, without, Notes, Lessened}
 use Rattle.weighing.proofs.Lone.{joined-low, loosed}

@@ -6,7 +6,7 @@ use native.Mathlib.Omega.{arith}
 use borrow.Author.Needs.{needs}
 use lib.Dec.{eqb}
 use Rattle.meaning.proofs.Tests.{fails}
-use Rattle.pairs.specs.Side.{heapOf}
+use Rattle.weighing.specs.Side.{heapOf}
 use Rattle.weighing.proofs.SideBits.{side-none}
 use Rattle.weighing.proofs.Lone.{moves-named, moves-lone, others-side}
 use Rattle.weighing.proofs.degrees.lone_side.Statement.{statement}

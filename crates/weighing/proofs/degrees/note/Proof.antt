@@ -6,9 +6,9 @@ use mathlib.Core.Bool.{cond}
 use native.Mathlib.Omega.{arith}
 use lib.ListN.{length-set, length, getD}
 use lib.Dec.{ltb}
-use Rattle.pairs.proofs.TableHeld.{held-symmetric}
-use Rattle.pairs.specs.Table.{held}
-use Rattle.pairs.specs.Side.{heapOf}
+use Rattle.links.proofs.TableHeld.{held-symmetric}
+use Rattle.links.specs.Table.{held}
+use Rattle.weighing.specs.Side.{heapOf}
 use Rattle.weighing.specs.Degrees.{toward, mate}
 use Rattle.weighing.proofs.Noting.{toward-none, toward-next, not-nought, store-next, noted-next}
 use Rattle.weighing.proofs.degrees.note.Statement.{statement}

@@ -3,8 +3,8 @@
 use Prim.Native.Nat.{ℕ, _≤_, zero-le, _*_, _^_, _-_}
 use mathlib.Core.Path.{_≡_, sym, _∙_, ap, subst}
 use native.Mathlib.Omega.{arith}
-use Rattle.pairs.specs.Table.{held}
-use Rattle.pairs.specs.Side.{heapOf}
+use Rattle.links.specs.Table.{held}
+use Rattle.weighing.specs.Side.{heapOf}
 use Rattle.weighing.specs.Degrees.{toward, others, share, Notes, Lessened}
 use Rattle.weighing.proofs.Noting.{toward-none, toward-next, less-same, less-none, less-at, share-none, share-next}
 use Rattle.weighing.proofs.degrees.take_out.Statement.{statement}

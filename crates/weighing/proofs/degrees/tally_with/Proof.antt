@@ -3,7 +3,7 @@
 use mathlib.Core.Path.{sym, _∙_, ap₂}
 use native.Mathlib.Omega.{arith}
 use borrow.Author.Needs.{needs}
-use Rattle.pairs.specs.Table.{held}
+use Rattle.links.specs.Table.{held}
 use Rattle.weighing.proofs.degrees.tally_with.Statement.{statement}
 use Rattle.weighing.proofs.degrees.tally_with.Tie as tie
 

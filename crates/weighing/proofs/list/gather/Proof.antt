@@ -5,7 +5,7 @@ use mathlib.Core.Path.{_≡_}
 use native.Mathlib.Omega.{arith}
 use Rattle.meaning.specs.Heap.{pile}
 use Rattle.meaning.proofs.Heaps.{pile-bone}
-use Rattle.pairs.specs.Side.{heapOf}
+use Rattle.weighing.specs.Side.{heapOf}
 use Rattle.weighing.proofs.Gathering.{Gathered, gathered-start, gathered-next, gathered-all}
 use Rattle.weighing.proofs.list.gather.Statement.{statement}
 use Rattle.weighing.proofs.list.gather.Tie as tie

@@ -5,8 +5,8 @@ use mathlib.Core.Path.{sym, _∙_}
 use native.Mathlib.Nat.{le-refl}
 use borrow.Author.Needs.{needs}
 use borrow.Author.Tests.{eq-eqb, ne-eqb}
-use Rattle.pairs.specs.Side.{heapOf}
-use Rattle.pairs.proofs.Sides.{pile-below}
+use Rattle.weighing.specs.Side.{heapOf}
+use Rattle.weighing.proofs.Sides.{pile-below}
 use Rattle.weighing.proofs.list.is_in.Statement.{statement}
 use Rattle.weighing.proofs.list.is_in.Tie as tie
 

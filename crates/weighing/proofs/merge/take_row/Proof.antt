@@ -5,7 +5,7 @@ use mathlib.Core.Path.{_≡_, _∙_}
 use mathlib.Core.Logic.{⊎-elim}
 use native.Mathlib.Omega.{arith}
 use borrow.Author.Needs.{needs}
-use Rattle.pairs.specs.Table.{lowered}
+use Rattle.links.specs.Table.{lowered}
 use Rattle.weighing.specs.Lists.{listed}
 use Rattle.weighing.specs.Merge.{RowTaken}
 use Rattle.weighing.proofs.Rows.{row-start, put, skip, row-turn}

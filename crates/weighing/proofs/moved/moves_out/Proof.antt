@@ -1,7 +1,7 @@
 -- `weighing::moved::moves_out` meets its contract: by whether the bone is of the pile. Assumes nothing.
 use mathlib.Core.Path.{sym, _∙_}
 use borrow.Author.Tests.{eq-eqb, ne-eqb}
-use Rattle.pairs.specs.Side.{heapOf}
+use Rattle.weighing.specs.Side.{heapOf}
 use Rattle.weighing.specs.Lists.{marked}
 use borrow.Author.Needs.{needs}
 use Rattle.weighing.proofs.moved.moves_out.Statement.{statement}

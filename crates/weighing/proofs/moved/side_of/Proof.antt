@@ -10,7 +10,7 @@ use lib.ListN.{length}
 use Rattle.meaning.specs.Count.{Bones}
 use Rattle.meaning.specs.Heap.{pile}
 use Rattle.meaning.proofs.Tests.{fails}
-use Rattle.pairs.specs.Side.{heapOf, sideOf}
+use Rattle.weighing.specs.Side.{heapOf, sideOf}
 use Rattle.weighing.specs.Lists.{marked}
 use Rattle.weighing.proofs.Noting.{not-nought, not-self}
 use Rattle.weighing.proofs.SideBits.{side-none, side-next, side-skip}

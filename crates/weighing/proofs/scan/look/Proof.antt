@@ -7,7 +7,7 @@ use native.Mathlib.Nat.{mod-eq-of-lt}
 use native.Mathlib.Omega.{arith}
 use borrow.Author.Needs.{needs}
 use lib.ListN.{getD}
-use Rattle.pairs.specs.Table.{held}
+use Rattle.links.specs.Table.{held}
 use Rattle.weighing.proofs.Scanning.{looked}
 use Rattle.weighing.proofs.scan.look.Statement.{statement}
 use Rattle.weighing.proofs.scan.look.Tie as tie

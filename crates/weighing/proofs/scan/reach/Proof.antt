@@ -5,7 +5,7 @@ use mathlib.Core.Path.{_≡_}
 use native.Mathlib.Omega.{arith}
 use borrow.Author.Needs.{needs}
 use lib.ListN.{getD}
-use Rattle.pairs.specs.Table.{held}
+use Rattle.links.specs.Table.{held}
 use Rattle.weighing.specs.Scan.{Reached}
 use Rattle.weighing.proofs.Scanning.{reached-start, reached-fresh, reached-next}
 use Rattle.weighing.proofs.scan.reach.Statement.{statement}

@@ -2,8 +2,8 @@
 -- Assumes nothing.
 use native.Mathlib.Omega.{arith}
 use borrow.Author.Needs.{needs}
-use Rattle.pairs.specs.Table.{held}
-use Rattle.pairs.proofs.TableHeld.{held-symmetric}
+use Rattle.links.specs.Table.{held}
+use Rattle.links.proofs.TableHeld.{held-symmetric}
 use Rattle.weighing.proofs.Listing.{once-less}
 use Rattle.weighing.proofs.Scanning.{Scan, scan-start, taken-once, u-low, passed-done, passed-light, scan-next}
 use Rattle.weighing.proofs.scan.scan.Statement.{statement}

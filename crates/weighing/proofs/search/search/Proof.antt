@@ -5,7 +5,7 @@ use mathlib.Core.Path.{sym, _∙_}
 use native.Mathlib.Omega.{arith}
 use borrow.Author.Needs.{needs}
 use lib.ListN.{getD}
-use Rattle.pairs.specs.Side.{heapOf}
+use Rattle.weighing.specs.Side.{heapOf}
 use Rattle.weighing.proofs.Listing.{once-less, listed-less}
 use Rattle.weighing.proofs.Searching.{heads-few, heads-fewer}
 use Rattle.weighing.proofs.Finding.{Passing, Piling, piling-start, piling-skip, passing-start, piling-next, searched, searched-none, passing-next}

@@ -1,2 +1,0 @@
--- What the promises of the record of cuts cite.
-pub mod Record

@@ -1,0 +1,48 @@
+-- `cutting::heap::copied` meets its contract. The invariant: the names of the bones below b are written. Assumes nothing.
+use Prim.Native.Nat.{ℕ, zero-le, _≤_, _-_}
+use mathlib.Core.Path.{_≡_, _∙_, ap}
+use mathlib.Core.List.{List}
+use native.Mathlib.Omega.{arith}
+use lib.ListN.{getD, set, length-replicate, replicate}
+use Rattle.weighing.specs.Side.{heapOf}
+use Rattle.cutting.specs.Names.{written}
+use Rattle.cutting.proofs.Names.{written-none, written-next, written-all}
+use Rattle.cutting.proofs.heap.copied.Statement.{statement}
+use Rattle.cutting.proofs.heap.copied.Tie as tie
+
+abbrev Inv-loop : tie.InvT-loop
+Inv-loop names copy₀ b₀ copy b = (b ≤ 128) × (copy ≡ written b (heapOf names) (replicate 128 0))
+
+abbrev μ-loop : tie.MeasureT-loop
+μ-loop names copy₀ b₀ copy b = 128 - b
+
+loop-again : tie.Need-loop-again Inv-loop μ-loop
+unfolding heapOf
+loop-again c =
+    let head = c .before .before .loop in
+    let names = c .before .before .before .args .names .now in (
+      omega arith,
+      ap (λ (l : List ℕ). set l (head .b) (getD names (head .b) 0)) (head .inv .1) ∙ written-next (head .b) (heapOf names) (replicate 128 0) (omega arith),
+    )
+
+returns : tie.Need-returns Inv-loop μ-loop
+returns c =
+    let h = heapOf (c .before .before .args .names .now) in
+    let end : c .before .loop .b ≡ 128 = omega arith in
+    c .before .loop .inv .1
+    ∙ ap (λ (m : ℕ). written m h (replicate 128 0)) end
+    ∙ written-all h (replicate 128 0) 128 (length-replicate {A = ℕ} 128 0)
+
+pub copied-spec : {M : Type 1} → statement M
+copied-spec =
+    tie.close
+    (tie.spec
+    Inv-loop
+    μ-loop
+    (λ c. (zero-le, written-none _ (replicate 128 0)))
+    (λ c. omega arith)
+    (λ c. omega arith)
+    (λ c. omega arith)
+    (λ c. omega arith)
+    loop-again
+    returns)

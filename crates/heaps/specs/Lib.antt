@@ -1,2 +1,0 @@
--- What heaps' promises cite.
-pub mod Names

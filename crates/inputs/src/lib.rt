@@ -1,2 +1,0 @@
-// Inputs: the writer of input texts.
-pub mod input;

@@ -1,3 +1,0 @@
--- What the promises of the lines' writers cite.
-pub mod Kinds
-pub mod Writing

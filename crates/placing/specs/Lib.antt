@@ -1,2 +1,0 @@
--- What the promise of a line's writer cites.
-pub mod Placing

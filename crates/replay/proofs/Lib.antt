@@ -1,2 +1,0 @@
--- The laws of a replay.
-pub mod Lawful

@@ -1,3 +1,0 @@
--- The laws of link records.
-pub mod RecordsLink
-pub mod RecordsKept

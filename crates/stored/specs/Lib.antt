@@ -1,2 +1,0 @@
--- What the promises of link records cite.
-pub mod Records

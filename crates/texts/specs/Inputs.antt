@@ -1,0 +1,23 @@
+-- What the input writer writes, and what it tries.
+use Prim.Native.Nat.{ℕ, _+_, _/_}
+use mathlib.Core.Bool.{true}
+use mathlib.Core.List.{List, [], _∷_, _++_}
+use lib.Dec.{ltb}
+use lib.ListN.{length}
+use Rattle.meaning.specs.declared.Link.{Link}
+use Rattle.meaning.specs.declared.Judged.{Judged}
+use Rattle.meaning.specs.Judge.{refuse}
+use Rattle.links.specs.Links.{tableRows}
+use Rattle.cutting.specs.Record.{entrySize}
+use Rattle.cutting.specs.RecordRows.{recordRow}
+use Rattle.texts.specs.Kinds.{headLine, linkLines, cutLines, closeLine}
+
+-- an input text: head, links, cuts, close
+unfoldable pub inputText : ℕ → ℕ → List Link → List ℕ → List ℕ
+inputText n k links bytes =
+    headLine n k ++ linkLines links ++ cutLines (length bytes / entrySize) bytes ++ closeLine (1 + length links + length bytes / entrySize)
+
+-- what the writer tries: 1 to 6, 9, 20
+unfoldable pub inputRows : ℕ → ℕ → List Link → List ℕ → ℕ → List Judged
+inputRows n k links bytes room =
+    tableRows n k true links ++ recordRow n (length bytes) ∷ refuse (ltb room (length (inputText n k links bytes))) 20 0 ∷ []

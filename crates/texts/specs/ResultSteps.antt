@@ -1,0 +1,24 @@
+-- What the result writer's parts promise each other.
+use Prim.Native.Nat.{ℕ, _/_, _≤_, _<_}
+use mathlib.Core.Path.{_≡_}
+use mathlib.Core.List.{List}
+use lib.ListN.{length}
+use Rattle.meaning.specs.declared.Judged.{Judged}
+use Rattle.meaning.specs.declared.Judged.the-variants.{Accepted, Refused}
+use Rattle.weighing.specs.Side.{heapOf}
+use Rattle.cutting.specs.Record.{entrySize}
+use Rattle.cutting.specs.declared.Answer.{Answer}
+use Rattle.cutting.specs.declared.Answer.the-variants.{Gave, Refused as Refused·answer}
+use Rattle.cutting.specs.Runs.{namesLeft}
+
+-- what the result writer has found when rows 1 to 13 are passed: numbers in range, and the names that the record's cuts leave
+pub record Named (n k : ℕ) (bytes names : List ℕ) : Type 0 where
+  pub bones : n ≤ 128
+  pub threshold : k < 65536
+  pub cuts : length bytes / entrySize ≤ 127
+  pub names-of : (b : ℕ) → b < n → heapOf names b ≡ namesLeft n bytes b
+
+-- what checking's answer says of the rows that it tries
+unfoldable pub judgedOf : Answer → Judged
+judgedOf (Gave count finished) = Accepted
+judgedOf (Refused·answer number place) = Refused number place
