@@ -11,11 +11,12 @@ pub enum Call {
     Read,
     WriteInput,
     WriteResult,
-    Program,
+    Bones,
+    Thin,
 }
 
-/// Every call in its place: served/library.c counts the calls from C in this order.
-pub const CALLS: [Call; 10] = [
+/// Every call in its place, the programs last: served/library.c counts the calls from C in this order.
+pub const CALLS: [Call; 11] = [
     Call::Grouping,
     Call::Checking,
     Call::Thinning,
@@ -25,8 +26,12 @@ pub const CALLS: [Call; 10] = [
     Call::Read,
     Call::WriteInput,
     Call::WriteResult,
-    Call::Program,
+    Call::Bones,
+    Call::Thin,
 ];
+
+/// The programs.
+pub const PROGRAMS: [Call; 2] = [Call::Bones, Call::Thin];
 
 impl Call {
     pub fn name(self) -> &'static str {
@@ -40,7 +45,8 @@ impl Call {
             Call::Read => "read",
             Call::WriteInput => "write_input",
             Call::WriteResult => "write_result",
-            Call::Program => "program",
+            Call::Bones => "bones",
+            Call::Thin => "thin",
         }
     }
 
@@ -48,9 +54,14 @@ impl Call {
         CALLS.into_iter().find(|call| call.name() == name)
     }
 
+    /// Whether it is a program, from a text to a text; else it is a call from C.
+    pub fn is_program(self) -> bool {
+        PROGRAMS.contains(&self)
+    }
+
     /// Whether links are records, given or read; else they are bytes.
     pub fn has_records(self) -> bool {
-        !matches!(self, Call::Grouping | Call::Checking | Call::Thinning | Call::Program)
+        !self.is_program() && !matches!(self, Call::Grouping | Call::Checking | Call::Thinning)
     }
 
     /// The call that does the same over records.
@@ -73,7 +84,9 @@ impl Call {
             Call::WriteInput => matches!(row, 1..=6 | 9 | 20),
             Call::WriteResult => matches!(row, 1..=6 | 9..=13 | 20),
             // The reader's in all the room that a text may want, then grouping's on what was read.
-            Call::Program => matches!(row, 1..=6 | 9..=13 | 15..=19),
+            Call::Bones => matches!(row, 1..=6 | 9..=13 | 15..=19),
+            // The reader's in that room, then thinning's; the links kept are none that the input writer refuses.
+            Call::Thin => matches!(row, 1..=6 | 9 | 15..=19),
         }
     }
 }

@@ -29,9 +29,9 @@ impl Case {
         Case { call, job }
     }
 
-    /// The program on a text.
-    pub fn program(text: Vec<u8>) -> Case {
-        Case::new(Call::Program, Job { text, ..Job::default() })
+    /// A program on a text.
+    pub fn program(program: Call, text: Vec<u8>) -> Case {
+        Case::new(program, Job { text, ..Job::default() })
     }
 
     /// The same call over records.

@@ -9,7 +9,7 @@ use crate::product::Outcome;
 use crate::second::calls::{judge_checking, judge_grouping, judge_thinning, kept, Job};
 use crate::second::pit::Pit;
 use crate::second::record::{cuts_of, judge_run, record_of, Heap, ENTRY};
-use crate::second::text::{asked, cuts_shown, read, refusal_text, result_text, write_input, write_result, Input};
+use crate::second::text::{asked, cuts_shown, read, refusal_text, result_text, write_input, write_result, Input, MOST_BYTES};
 use crate::second::Refusal;
 use crate::table::Table;
 
@@ -38,6 +38,7 @@ enum Good {
     Read(Input),
     Written(String),
     Printed(Job, Pit),
+    PrintedThin(Job, Pit),
 }
 
 fn second(case: &Case) -> Result<Good, Refusal> {
@@ -50,10 +51,15 @@ fn second(case: &Case) -> Result<Good, Refusal> {
         Call::Read => read(&job.text, job.link_room, job.space).map(Good::Read),
         Call::WriteInput => write_input(job.n, job.k, &job.links, &job.record, job.text_room).map(Good::Written),
         Call::WriteResult => write_result(job.n, job.k, &job.links, &job.record, job.text_room).map(Good::Written),
-        Call::Program => {
+        Call::Bones => {
             let job = asked(&job.text)?;
             let (pit, _) = judge_grouping(&job)?;
             Ok(Good::Printed(job, pit))
+        }
+        Call::Thin => {
+            let job = asked(&job.text)?;
+            let pit = judge_thinning(job.n, job.k, &job.links, 4096)?;
+            Ok(Good::PrintedThin(job, pit))
         }
     }
 }
@@ -78,6 +84,7 @@ impl Judge {
             (Ok(Good::Read(input)), Outcome::Called(done)) => hold_read(&input, done),
             (Ok(Good::Written(text)), Outcome::Called(done)) => hold_written(&text, done),
             (Ok(Good::Printed(job, pit)), Outcome::Printed(printed)) => self.hold_result(&job, &pit, printed),
+            (Ok(Good::PrintedThin(job, pit)), Outcome::Printed(printed)) => self.hold_thinned(&job, &pit, printed),
             _ => Err("an outcome of another kind".to_string()),
         }
     }
@@ -106,6 +113,13 @@ impl Judge {
         demand_told(done, &[0, 0, links.len() / 4])?;
         demand(done.room(0, links.len()) == in_form(case.call, &links), "the links kept")?;
         demand(done.wrote_only(&[links.len()]), "a byte changed that may not")
+    }
+
+    /// The text of the links kept, as the second program's own input writer has it.
+    fn hold_thinned(&mut self, job: &Job, pit: &Pit, printed: &[u8]) -> Result<(), String> {
+        let links = kept(pit, &self.memory.of(job).labels());
+        let wanted = write_input(job.n, job.k, &links, &[], MOST_BYTES).map_err(|refusal| format!("no text of the links kept: {refusal:?}"))?;
+        demand_or(printed == wanted.as_bytes(), || format!("printed {:?}, wanted {wanted:?}", String::from_utf8_lossy(printed)))
     }
 
     /// The cuts that were printed begin with those given, are lawful and lead to the groups; the whole text is then settled.

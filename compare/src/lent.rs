@@ -82,6 +82,6 @@ pub fn runs(call: Call, job: &Job) -> Vec<Lent> {
         Call::Thinning | Call::ThinningRecords => vec![links(), link_room()],
         Call::Read => vec![Lent::given(&job.text, 1), link_room(), room(job.space)],
         Call::WriteInput | Call::WriteResult => vec![links(), record(), room(job.text_room)],
-        Call::Program => Vec::new(),
+        Call::Bones | Call::Thin => Vec::new(),
     }
 }

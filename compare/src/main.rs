@@ -15,7 +15,7 @@ mod self_test;
 mod server;
 mod table;
 
-use call::{Call, CALLS};
+use call::{Call, CALLS, PROGRAMS};
 use case::Case;
 use judge::Judge;
 use library::Library;
@@ -35,8 +35,8 @@ struct Options {
     texts: usize,
     soak: u64,
     library: Option<PathBuf>,
-    program: Option<PathBuf>,
-    started: Option<PathBuf>,
+    bones: Option<Program>,
+    thin: Option<Program>,
     replay: Option<PathBuf>,
     answer: Option<String>,
 }
@@ -49,8 +49,8 @@ fn options() -> Result<Options, String> {
         texts: 12,
         soak: 0,
         library: None,
-        program: None,
-        started: None,
+        bones: None,
+        thin: None,
         replay: None,
         answer: None,
     };
@@ -65,8 +65,10 @@ fn options() -> Result<Options, String> {
             "--texts" => options.texts = number(value()?)? as usize,
             "--soak" => options.soak = number(value()?)?,
             "--library" => options.library = Some(value()?.into()),
-            "--program" => options.program = Some(value()?.into()),
-            "--started" => options.started = Some(value()?.into()),
+            "--bones" => options.bones = Some(Program::Served(Server::new(value()?.into()))),
+            "--bones-started" => options.bones = Some(Program::Started(value()?.into())),
+            "--thin" => options.thin = Some(Program::Served(Server::new(value()?.into()))),
+            "--thin-started" => options.thin = Some(Program::Started(value()?.into())),
             "--replay" => options.replay = Some(value()?.into()),
             "--answer" => options.answer = Some(value()?),
             _ => return Err(format!("no option {word}")),
@@ -86,10 +88,9 @@ struct Tally {
 const MOST_SHOWN: u64 = 5;
 
 impl Tally {
-    fn new(options: &Options) -> Tally {
-        let served = options.program.clone().map(|path| Program::Served(Server::new(path)));
-        let program = served.or(options.started.clone().map(Program::Started));
-        let product = Product { library: options.library.clone().map(Library::new), program };
+    fn new(options: &mut Options) -> Tally {
+        let library = options.library.clone().map(Library::new);
+        let product = Product { library, bones: options.bones.take(), thin: options.thin.take() };
         Tally { product, judge: Judge::default(), held: 0, failed: 0 }
     }
 
@@ -97,8 +98,8 @@ impl Tally {
         self.product.library.is_some()
     }
 
-    fn has_program(&self) -> bool {
-        self.product.program.is_some()
+    fn programs(&self) -> Vec<Call> {
+        PROGRAMS.into_iter().filter(|program| self.product.has(*program)).collect()
     }
 
     fn hold(&mut self, cases: &[Case]) {
@@ -151,12 +152,16 @@ fn hold_calls(tally: &mut Tally, job: &Job, thorough: bool, rng: &mut Rng) {
     tally.hold(&cases);
 }
 
-/// A text of a list; now and then a text with the cuts that the program printed for it.
+/// A text of a list, for each program; now and then a text of what it printed: with the cuts of `bones`, and that of `thin` as it is.
 fn hold_text(tally: &mut Tally, job: &Job, rng: &mut Rng) {
     let text = plan::texts::of_list(job, rng);
-    let printed = tally.hold_one(Case::program(text.clone()));
-    if let (Some(Outcome::Printed(printed)), true) = (printed, rng.one_in(4)) {
-        tally.hold(&plan::texts::printed_again(&text, &printed).map(Case::program).into_iter().collect::<Vec<_>>());
+    let again = rng.one_in(4);
+    for program in tally.programs() {
+        let printed = tally.hold_one(Case::program(program, text.clone()));
+        if let (Some(Outcome::Printed(printed)), true) = (printed, again) {
+            let next = if program == Call::Thin { Some(printed) } else { plan::texts::printed_again(&text, &printed) };
+            tally.hold(&next.map(|text| Case::program(program, text)).into_iter().collect::<Vec<_>>());
+        }
     }
 }
 
@@ -166,7 +171,7 @@ fn hold_list(tally: &mut Tally, turn: usize, options: &Options, seed: u64) {
     if tally.has_library() {
         hold_calls(tally, &job, rng.one_in(options.thorough), &mut rng);
     }
-    if tally.has_program() {
+    if !tally.programs().is_empty() {
         hold_text(tally, &job, &mut rng);
     }
 }
@@ -180,7 +185,7 @@ fn hold_lists(tally: &mut Tally, options: &Options, seed: u64) {
     }
 }
 
-/// Texts at the limits, and small texts damaged in every way: for the program, and for the reader, which is also lent too little.
+/// Texts at the limits, and small texts damaged in every way: for the programs, and for the reader, which is also lent too little.
 fn hold_texts(tally: &mut Tally, options: &Options, seed: u64) {
     let mut rng = Rng::new(seed);
     let limits = plan::texts::at_limits();
@@ -191,8 +196,8 @@ fn hold_texts(tally: &mut Tally, options: &Options, seed: u64) {
         cases.extend(limits.iter().flat_map(|text| plan::reading::in_rooms(text, &mut rng)));
         cases.extend(damaged.iter().map(|text| plan::reading::of_text(text, &mut rng)));
     }
-    if tally.has_program() {
-        cases.extend(limits.into_iter().chain(damaged).map(Case::program));
+    for program in tally.programs() {
+        cases.extend(limits.iter().chain(&damaged).map(|text| Case::program(program, text.clone())));
     }
     for some in cases.chunks(1000) {
         if tally.enough() {
@@ -202,10 +207,9 @@ fn hold_texts(tally: &mut Tally, options: &Options, seed: u64) {
     }
 }
 
-/// The calls that were compared; the program is one of them.
+/// The calls that were compared; the programs are among them.
 fn compared(tally: &Tally) -> Vec<Call> {
-    let was = |call: &Call| if *call == Call::Program { tally.has_program() } else { tally.has_library() };
-    CALLS.into_iter().filter(was).collect()
+    CALLS.into_iter().filter(|call| tally.product.has(*call)).collect()
 }
 
 /// How many cells of the table are wrong, which are printed: every row that a call can give must have been met in it, or the comparison has
@@ -244,20 +248,20 @@ fn replay(tally: &mut Tally, path: &PathBuf) -> Result<bool, String> {
     Ok(tally.failed == 0)
 }
 
-fn run(options: &Options) -> Result<bool, String> {
+fn run(mut options: Options) -> Result<bool, String> {
     let start = Instant::now();
     self_test::run();
     if let Some(what) = &options.answer {
         return second::answer(what).map(|()| true);
     }
-    let mut tally = Tally::new(options);
+    let mut tally = Tally::new(&mut options);
     if let Some(path) = &options.replay {
         return replay(&mut tally, path);
     }
     let mut seed = options.seed;
     loop {
-        hold_texts(&mut tally, options, seed);
-        hold_lists(&mut tally, options, seed);
+        hold_texts(&mut tally, &options, seed);
+        hold_lists(&mut tally, &options, seed);
         seed += 1;
         if tally.enough() || start.elapsed() >= Duration::from_secs(options.soak) {
             return Ok(report(&tally, start));
@@ -266,7 +270,7 @@ fn run(options: &Options) -> Result<bool, String> {
 }
 
 fn main() {
-    match options().and_then(|options| run(&options)) {
+    match options().and_then(run) {
         Ok(true) => {}
         Ok(false) => std::process::exit(1),
         Err(error) => {

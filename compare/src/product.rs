@@ -1,4 +1,4 @@
-//! The product under test: its library, its program, or both.
+//! The product under test: its library, its programs, or some of them.
 
 use crate::call::Call;
 use crate::case::Case;
@@ -12,30 +12,43 @@ pub enum Outcome {
 
 pub struct Product {
     pub library: Option<Library>,
-    pub program: Option<Program>,
+    pub bones: Option<Program>,
+    pub thin: Option<Program>,
 }
 
-fn is_program(case: &Case) -> bool {
-    case.call == Call::Program
+/// The program of a case, or none where it is a call from C.
+fn program_of(case: &Case) -> Option<Call> {
+    case.call.is_program().then_some(case.call)
 }
 
 impl Product {
-    /// What comes of each case, or how the product failed; cases of one kind that stand together are handed over together.
-    pub fn outcomes(&mut self, cases: &[Case]) -> Vec<Result<Outcome, String>> {
-        cases.chunk_by(|a, b| is_program(a) == is_program(b)).flat_map(|some| self.of_one_kind(some)).collect()
-    }
-
-    fn of_one_kind(&mut self, cases: &[Case]) -> Vec<Result<Outcome, String>> {
-        if is_program(&cases[0]) {
-            let texts: Vec<Vec<u8>> = cases.iter().map(|case| case.job.text.clone()).collect();
-            self.printed(&texts).into_iter().map(|printed| printed.map(Outcome::Printed)).collect()
-        } else {
-            self.called(cases).into_iter().map(|done| done.map(Outcome::Called)).collect()
+    /// Whether there is something to make the call of.
+    pub fn has(&self, call: Call) -> bool {
+        match call {
+            Call::Bones => self.bones.is_some(),
+            Call::Thin => self.thin.is_some(),
+            _ => self.library.is_some(),
         }
     }
 
-    fn printed(&mut self, texts: &[Vec<u8>]) -> Vec<Result<Vec<u8>, String>> {
-        match &mut self.program {
+    /// What comes of each case, or how the product failed; cases of one kind that stand together are handed over together.
+    pub fn outcomes(&mut self, cases: &[Case]) -> Vec<Result<Outcome, String>> {
+        cases.chunk_by(|a, b| program_of(a) == program_of(b)).flat_map(|some| self.of_one_kind(some)).collect()
+    }
+
+    fn of_one_kind(&mut self, cases: &[Case]) -> Vec<Result<Outcome, String>> {
+        match program_of(&cases[0]) {
+            Some(program) => {
+                let texts: Vec<Vec<u8>> = cases.iter().map(|case| case.job.text.clone()).collect();
+                self.printed(program, &texts).into_iter().map(|printed| printed.map(Outcome::Printed)).collect()
+            }
+            None => self.called(cases).into_iter().map(|done| done.map(Outcome::Called)).collect(),
+        }
+    }
+
+    fn printed(&mut self, program: Call, texts: &[Vec<u8>]) -> Vec<Result<Vec<u8>, String>> {
+        let program = if program == Call::Thin { &mut self.thin } else { &mut self.bones };
+        match program {
             Some(program) => program.printed(texts),
             None => texts.iter().map(|_| Err("there is no program to run".to_string())).collect(),
         }

@@ -1,4 +1,4 @@
-//! The program under test: a text on its standard input, a text from its standard output. A program of the toolchain is run on many
+//! A program under test: a text on its standard input, a text from its standard output. A program of the toolchain is run on many
 //! texts in one process, by served/program.c; any other is started anew for each.
 
 use crate::server::Server;
@@ -39,8 +39,8 @@ fn started(program: &Path, text: &[u8]) -> Result<Vec<u8>, String> {
     command.arg(PATIENCE).arg(program).stdin(Stdio::piped()).stdout(Stdio::piped());
     let mut child = command.spawn().map_err(failed)?;
     let mut input = child.stdin.take().ok_or("no standard input")?;
-    // A program that has read enough may end before it has read all; what it prints is judged all the same. It prints far less than
-    // a pipe holds, so neither side waits for the other.
+    // A program that has read enough may end before it has read all; what it prints is judged all the same. It reads all
+    // before it prints, and prints less than a pipe holds, so neither side waits for the other.
     let _ = input.write_all(text);
     drop(input);
     let output = child.wait_with_output().map_err(failed)?;

@@ -1,5 +1,6 @@
 //! The cases that document 01 prints, held against the second program itself.
 
+use crate::second::answer::thin;
 use crate::second::brute::Subsets;
 use crate::second::calls::{judge_links, thinning, Job};
 use crate::second::record::{cuts_of, judge_run, Cut};
@@ -27,6 +28,17 @@ const LLAMAS_RESULT: &str = "01060002f7
 040403f5
 040503f4
 060008f2
+";
+
+/// The same input without the link between the two llamas, by hand.
+const LLAMAS_THINNED: &str = "01060002f7
+0200010001fc
+0200020001fb
+0201020001fa
+0203040001f6
+0203050001f5
+0204050001f4
+060007f3
 ";
 
 const TRIANGLES: &[(u8, u8, u8)] = &[(0, 1, 1), (0, 2, 1), (1, 2, 1), (3, 4, 1), (3, 5, 1), (4, 5, 1), (2, 3, 1)];
@@ -98,6 +110,7 @@ fn thinned() {
     let links = bytes(TRIANGLES);
     assert_eq!(thinning(6, 2, &links, 7).unwrap(), links[..24]);
     assert_eq!(thinning(6, 2, &links, 6), Err(Refusal { number: 14, place: 0 }));
+    assert_eq!(thin(&asked(LLAMAS.as_bytes()).unwrap()).unwrap(), LLAMAS_THINNED);
 }
 
 pub fn run() {

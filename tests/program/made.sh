@@ -28,14 +28,14 @@ repeat() { awk -v count="$1" -v line="$2" 'BEGIN { for (i = 0; i < count; i++) p
 # bytes COUNT BYTE: one byte many times
 bytes() { head -c "$1" /dev/zero | tr '\0' "$2"; }
 
-# made NAME TEXT WANTED: holds the program to what the two commands print
+# made NAME TEXT WANTED [THINNED]: holds the program to what the two commands print; THINNED is what thin prints, where bones prints something else
 made() {
   $2 >"$room/text"
-  $3 >"$room/wanted"
+  $(of_this "$3" "${4:-}") >"$room/wanted"
   hold "$1" "$room/text" "$room/wanted"
 }
 
-# made_of LENGTH NAME TEXT WANTED: the same, and the text has that many bytes
+# made_of LENGTH NAME TEXT WANTED [THINNED]: the same, and the text has that many bytes
 made_of() {
   $3 >"$room/text"
   [ "$(wc -c <"$room/text")" -eq "$1" ] || fail "$2" "the text is not of $1 bytes"
@@ -61,11 +61,12 @@ kinds() {
 # Bones 0 and 1 keep together at 2, bone 2 hangs by 1.
 longest() { a_head 3 2; a_link 0 1 2; a_link 2 1 1; repeat 1770 "$(a_note)"; a_close "${1:-1773}"; }
 longest_result() { a_head 3 2; a_cut 0 1 2; a_label 0 0; a_label 1 0; a_label 2 2; a_close 5; }
+longest_thinned() { a_head 3 2; a_link 0 1 2; a_close 2; }
 one_more() { a_head 3 2; repeat 7 "$(a_link 0 1 2)"; a_cut 0 0 2; repeat 1767 "$(a_note)"; a_close 1776; }
 bad_at_1000() { a_head 3 2; a_link 0 1 2; a_link 2 1 1; repeat 997 "$(a_note)"; echo "$1"; repeat 772 "$(a_note)"; a_close 1773; }
 
 lengths() {
-  made_of 65536 'longest text' longest longest_result
+  made_of 65536 'longest text' longest longest_result longest_thinned
   made_of 65536 'longest text, wrong count' 'longest 1772' 'a_refusal 19 1773'
   made_of 65537 'one byte too many' one_more 'a_refusal 15 0'
   made_of 65536 'all one line, no line feed' 'bytes 65536 0' 'a_refusal 16 0'
@@ -82,9 +83,11 @@ lengths() {
 
 notes() { a_head 1 1; repeat 300 "$(a_note)"; [ "$1" -eq 0 ] || a_close "$1"; }
 one_bone() { a_head 1 1; a_label 0 0; a_close 2; }
+# no_links N K: a text of a head and a close
+no_links() { a_head "$1" "$2"; a_close 1; }
 
 counts() {
-  made '300 notes' 'notes 301' one_bone
+  made '300 notes' 'notes 301' one_bone 'no_links 1 1'
   made '300 notes, low byte of the count alone' 'notes 45' 'a_refusal 19 301'
   made '300 notes, no close' 'notes 0' 'a_refusal 18 301'
 }
@@ -119,12 +122,13 @@ all_one() {
 
 many_links() {
   local heaviest=$((4096 * 65535))
-  made '4096 links' 'pairs 4096 1 2 4096' 'together 4096'
-  made '4096 links, k one more' 'pairs 4096 1 2 4097' 'apart 4097 4096'
-  made '4096 links of 65535' 'pairs 4096 65535 2 65535' 'together 65535'
-  made '4096 links of 65535, cut as they weigh' "pairs 4096 65535 2 65535 $(a_cut 0 $heaviest 1)" 'a_refusal 13 0'
-  made '4096 links of 65535, cut without the high byte' "pairs 4096 65535 2 65535 $(a_cut 0 $((heaviest % 16777216)) 1)" 'a_refusal 12 0'
-  made '4096 links of 65535 among 128 bones' round all_one
+  made '4096 links' 'pairs 4096 1 2 4096' 'together 4096' 'pairs 4096 1 2 4096'
+  made '4096 links, k one more' 'pairs 4096 1 2 4097' 'apart 4097 4096' 'no_links 2 4097'
+  made '4096 links of 65535' 'pairs 4096 65535 2 65535' 'together 65535' 'pairs 4096 65535 2 65535'
+  made '4096 links of 65535, cut as they weigh' "pairs 4096 65535 2 65535 $(a_cut 0 $heaviest 1)" 'a_refusal 13 0' 'pairs 4096 65535 2 65535'
+  made '4096 links of 65535, cut without the high byte' "pairs 4096 65535 2 65535 $(a_cut 0 $((heaviest % 16777216)) 1)" 'a_refusal 12 0' \
+    'pairs 4096 65535 2 65535'
+  made '4096 links of 65535 among 128 bones' round all_one round
   made '4095 links and a bad end' "pairs 4095 1 2 1 $(a_link 0 2 1)" 'a_refusal 4 4095'
   made '4095 links and equal ends' "pairs 4095 1 2 1 $(a_link 1 1 1)" 'a_refusal 5 4095'
   made '4095 links and a tally of nought' "pairs 4095 1 2 1 $(a_link 0 1 0)" 'a_refusal 6 4095'
@@ -166,16 +170,16 @@ path_result() {
 }
 
 many_cuts() {
-  made '127 cuts' 'heap 128 127' heap_result
-  made '126 cuts, one left' 'heap 128 126' heap_result
-  made '126 cuts and a wrong weight' "heap 128 126 $(a_cut 0 1 1)" 'a_refusal 12 126'
-  made '126 cuts and a pile that does not stand' "heap 128 126 $(a_cut 1 0 1)" 'a_refusal 10 126'
-  made '126 cuts and a bone outside the pile' "heap 128 126 $(a_cut 0 0 2)" 'a_refusal 11 126'
+  made '127 cuts' 'heap 128 127' heap_result 'no_links 128 1'
+  made '126 cuts, one left' 'heap 128 126' heap_result 'no_links 128 1'
+  made '126 cuts and a wrong weight' "heap 128 126 $(a_cut 0 1 1)" 'a_refusal 12 126' 'no_links 128 1'
+  made '126 cuts and a pile that does not stand' "heap 128 126 $(a_cut 1 0 1)" 'a_refusal 10 126' 'no_links 128 1'
+  made '126 cuts and a bone outside the pile' "heap 128 126 $(a_cut 0 0 2)" 'a_refusal 11 126' 'no_links 128 1'
   made '127 cuts and one more' "heap 128 127 $(a_cut 0 0 1)" 'a_refusal 9 0'
   made '128 cuts before n' "heap 0 127 $(a_cut 0 0 1)" 'a_refusal 9 0'
-  made '127 cuts of 127 bones' 'heap 127 127' 'a_refusal 9 0'
+  made '127 cuts of 127 bones' 'heap 127 127' 'a_refusal 9 0' 'no_links 127 1'
   made '128 cuts after 4097 links' "pairs 4097 1 2 1 $(repeat 128 "$(a_cut 0 0 1)" | tr '\n' ' ')" 'a_refusal 3 0'
-  made 'bone 127 by itself' path path_result
+  made 'bone 127 by itself' path path_result path
 }
 
 made_cases() {

@@ -2,11 +2,11 @@
 
 use super::calls::{judge_grouping, thinning, Job};
 use super::record::{cuts_of, judge_run};
-use super::text::{asked, raw_input_text, refusal_text, result_text};
+use super::text::{asked, refusal_text, result_text, write_input, MOST_BYTES};
 use super::{finish, Refusal};
 use std::io::{Read, Write};
 
-/// `bones`: the result text, by the second program's own cuts. `thin`: an input text of the links that thinning keeps.
+/// `bones`: the result text, by the second program's own cuts. `thin`: the input text of the links that thinning keeps, without cuts.
 pub fn answer(what: &str) -> Result<(), String> {
     let mut text = Vec::new();
     std::io::stdin().read_to_end(&mut text).map_err(|error| error.to_string())?;
@@ -26,7 +26,7 @@ fn bones(job: &Job) -> Result<String, Refusal> {
     Ok(result_text(&pit, &cuts, &heap))
 }
 
-fn thin(job: &Job) -> Result<String, Refusal> {
+pub fn thin(job: &Job) -> Result<String, Refusal> {
     let links = thinning(job.n, job.k, &job.links, 4096)?;
-    Ok(raw_input_text(job.n, job.k, &links, &[]))
+    write_input(job.n, job.k, &links, &[], MOST_BYTES)
 }

@@ -1,11 +1,12 @@
-//! Lines of hexadecimal: the reader, the two writers, and what the program is to print.
+//! Lines of hexadecimal: the reader, the two writers, and what the programs are to print.
 
 use super::calls::{judge_links, judge_record_length, Job};
 use super::pit::Pit;
 use super::record::{cuts_of, judge_run, Cut, Heap, ENTRY};
 use super::{refuse_if, Refusal};
 
-const MOST_BYTES: usize = 65_536;
+/// Bytes of a text, at most.
+pub const MOST_BYTES: usize = 65_536;
 const DIGITS: &[u8; 16] = b"0123456789abcdef";
 
 /// Bytes between the kind and the sum; none for a byte that is no kind.
@@ -178,12 +179,12 @@ pub fn write_result(n: u64, k: u64, links: &[u8], record: &[u8], room: usize) ->
     Ok(text)
 }
 
-/// The one line that the program prints when it refuses.
+/// The one line that a program prints when it refuses.
 pub fn refusal_text(refusal: Refusal) -> String {
     line(7, &[refusal.number as u8, (refusal.place / 256) as u8, (refusal.place % 256) as u8])
 }
 
-/// The grouping that the program is asked for by a text, with all the room that it may want; or the reader's refusal.
+/// What a program is asked for by a text, with all the room that it may want; or the reader's refusal.
 pub fn asked(text: &[u8]) -> Result<Job, Refusal> {
     let input = read(text, 4096, ENTRY * 127)?;
     let (n, k) = (input.n.into(), input.k.into());

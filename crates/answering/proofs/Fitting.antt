@@ -1,6 +1,6 @@
--- A refusal of the reader or of grouping fits the frame that tells it: its number is below 256, and its place below 65,536.
+-- A refusal of the reader, of grouping or of thinning fits the frame that tells it: its number is below 256, and its place below 65,536.
 --     Fits             what a judgement is, if it refuses
---     reader-fits, grouping-fits     the first refusal of each
+--     reader-fits, grouping-fits, thinning-fits     the first refusal of each
 -- Assumes nothing.
 use Prim.Native.Nat.{ℕ, suc, _+_, _-_, _/_, _%_, _≤_, _<_}
 use mathlib.Core.Path.{_≡_, refl, subst}
@@ -20,7 +20,7 @@ use Rattle.links.specs.Links.{linkRows, linksRows, countRows, tableRows}
 use Rattle.links.proofs.LinksRows.{table-counted}
 use Rattle.cutting.specs.Record.{entrySize, cutsIn, cutsOf}
 use Rattle.cutting.specs.RecordRows.{recordRow, recordRows, entryRows, entriesRows}
-use Rattle.cutting.specs.Rows.{labelRow, spaceRow, groupingRows}
+use Rattle.cutting.specs.Rows.{labelRow, spaceRow, linkRow, groupingRows, thinningRows}
 use Rattle.cutting.proofs.Cuts.{length-cuts}
 use Rattle.frames.specs.declared.stage.Stage.{Stage}
 use Rattle.frames.specs.declared.stage.Stage.the-variants.{Opening}
@@ -92,6 +92,12 @@ grouping-fits n k links bytes labelRoom recordRoom =
     both-fit (tableRows n k true links) _ (table-fits n k links) (λ e.
     row-fits _ 7 0 _ (lit< tt, lit< tt) (λ _.
     row-fits _ 8 0 _ (lit< tt, lit< tt) (λ _. record-fits n (pairTally links) k bytes (table-counted n k true links e .few-bones))))
+
+-- ---- thinning
+
+pub thinning-fits : (n k : ℕ) (links : List Link) (linkRoom : ℕ) → Fits (first (thinningRows n k true links linkRoom))
+unfolding thinningRows linkRow
+thinning-fits n k links linkRoom = both-fit (tableRows n k true links) _ (table-fits n k links) (λ _. row-fits _ 14 0 _ (lit< tt, lit< tt) (λ _. none-fits))
 
 -- ---- the reader
 

@@ -2,7 +2,11 @@
 pub mod Fitting
 pub mod AfterGroup
 pub mod AfterRead
+pub mod AfterReadThin
+pub mod AfterThin
 pub mod Calls
 pub mod ReadingRow
+pub mod ThinnedRow
 pub mod Theorems
+pub mod ThinTheorems
 pub mod Letters

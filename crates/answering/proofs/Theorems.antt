@@ -140,7 +140,7 @@ module _ (input out out₁ out₂ : List ℕ) (r s : Written) (a : Answering inp
       let line = one-refusal n k links given (first (programRows input)) number place e in
       same-text (line (a .text) (a .printed) ∙ sym (line (b .text) (b .printed)))
 
-counted : Written → ℕ
+unfoldable pub counted : Written → ℕ
 counted (Bytes count) = count
 counted (Refused·written number place) = 0
 

@@ -1,3 +1,5 @@
--- What the program's promise cites.
+-- What the promises of the programs cite.
 pub mod Prints
 pub mod Steps
+pub mod Thins
+pub mod ThinSteps

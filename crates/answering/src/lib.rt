@@ -1,5 +1,8 @@
-// The program's one function, from bytes to bytes: an input text is read, its bones are grouped, and the result text is written; or the first refusal's
-// frame, alone. The functions over link records are proved by hand, so each only lends, and goes by one answer; numbers are left to covered ones.
+// What each program does, in one function from bytes to bytes. Here that of `bones`: an input text is read, its bones are grouped, and the result text is
+// written; or the first refusal's frame, alone. The functions over link records are proved by hand, so each only lends, and goes by one answer; numbers are
+// left to covered ones.
+pub mod thin;
+
 use cutting::Answer;
 use cutting::grouping_records;
 use cutting::record::Record;
@@ -17,8 +20,8 @@ ghost use Rattle.texts.specs.Writing.{Refuses};
 ghost use Rattle.answering.specs.Prints.{groupedRows, Answers, Answering};
 ghost use Rattle.answering.specs.Steps.{Framed, Held, AfterReading, Ready, AfterGrouping};
 
-// The frame of a refusal, alone. The numbers and places that the reader and grouping refuse with fit it.
-fn write_refused(number: u32, place: u32, out: &mut [u8]) -> Written
+// The frame of a refusal, alone. The numbers and places that the reader, grouping and thinning refuse with fit it.
+pub(crate) fn write_refused(number: u32, place: u32, out: &mut [u8]) -> Written
     requires { ⌜ Framed number place ⌝ }
     ensures { λ r. ⌜ Refuses number place (now (out .entry)) (now (out .exit)) r ⌝ }
 {

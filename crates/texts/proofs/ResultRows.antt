@@ -31,7 +31,7 @@ unfolding firstOf
 writes-after i j text room room′ r e w = rw e w
 
 -- the result writer's rows: 1 to 6, 9 to 13, and 20
-one-row : (j : Judged) → first (j ∷ []) ≡ j
+pub one-row : (j : Judged) → first (j ∷ []) ≡ j
 unfolding first
 one-row Accepted = refl
 one-row (Refused number place) = refl

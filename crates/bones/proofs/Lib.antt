@@ -1,0 +1,2 @@
+-- What the program prints is all that was answered.
+pub mod Printed

@@ -1,0 +1,2 @@
+-- What is printed of an answer.
+pub mod Shown

@@ -1,0 +1,39 @@
+# Sourced by ./bones and ./thin, which stand beside each other at the root: how a program is proved, built and started.
+. tests/toolchain.sh
+
+# parts NAME: how many crates are proved for a program, itself among them
+parts() {
+  awk -F '[: ]+' -v name="$1" '!/^#/ { for (i = 2; i <= NF; i++) names[$1] = names[$1] " " $i; known[$1] = 1 }
+    function visit(one, i, count, below) {
+      if (!(one in known) || one in seen) return
+      seen[one] = 1
+      count = split(names[one], below, " ")
+      for (i = 1; i <= count; i++) visit(below[i])
+    }
+    END { visit(name); for (one in seen) count++; print count }' crates.txt
+}
+
+# progress NAME: of what rt says, a line for each crate that it has proved anew; nothing where all of them were proved before
+progress() {
+  local all line count=0
+  all=$(parts "$1")
+  while read -r line; do
+    case $line in 'rt: '*' proved ('*) ;; *) continue ;; esac
+    count=$((count + 1))
+    line=${line#rt: }
+    case $line in *'(unchanged'*) ;; *) echo "$1: proved $count of $all: ${line%% *}" ;; esac
+  done
+}
+
+# start NAME: starts the program. Where it is missing or out of date it is proved and built first, and standard error shows how far that is;
+# standard output is the program's alone.
+start() {
+  local log=target/$1.log
+  [ -x "target/bin/$1" ] || echo "$1: proving and building the program first; that takes some minutes" >&2
+  mkdir -p target
+  if ! (set -o pipefail; rt check "$1" </dev/null 2>&1 | tee "$log" | progress "$1" >&2); then
+    cat "$log" >&2
+    exit 1
+  fi
+  exec "${starter[@]}" "target/bin/$1"
+}
