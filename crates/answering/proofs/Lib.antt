@@ -10,3 +10,5 @@ pub mod ThinnedRow
 pub mod Theorems
 pub mod ThinTheorems
 pub mod Letters
+pub mod Refusing
+pub mod Main
