@@ -2,8 +2,8 @@
  * A catalogue's calls: which bones of a tray belong together, the cuts that show why the others do not, the matches that are worth
  * keeping, and all of it as texts for those who have no database.
  *
- *   rt staticlib calls
- *   cc -Iinclude examples/catalogue.c target/staticlib/libcalls.a -o target/catalogue && target/catalogue
+ *   ./libbones
+ *   cc -Iinclude examples/catalogue.c -Llib -lbones -o catalogue && ./catalogue
  */
 #include <stdio.h>
 #include <string.h>

@@ -16,7 +16,7 @@
  * The first three take links as runs of bytes, which may come from anywhere. Under a name with _records they do the same on arrays of
  * struct bones_link. The three on texts have their links in such arrays too.
  *
- * Link with the archive that `rt staticlib calls` writes: cc prog.c target/staticlib/libcalls.a
+ * Link with lib/libbones.a, which the command ./libbones proves and builds: cc -Iinclude prog.c -Llib -lbones
  *
  * Numbers
  *   n        bones, 1 to 128

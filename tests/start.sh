@@ -1,4 +1,4 @@
-# Sourced by ./bones and ./thin, which stand beside each other at the root: how a program is proved, built and started.
+# Sourced by ./bones, ./thin and ./libbones, which stand beside each other at the root: how a program is proved, built and started, and the archive for C built.
 . tests/toolchain.sh
 
 # parts NAME: how many crates are proved for a program, itself among them
@@ -25,15 +25,26 @@ progress() {
   done
 }
 
-# start NAME: starts the program. Where it is missing or out of date it is proved and built first, and standard error shows how far that is;
-# standard output is the program's alone.
-start() {
+# built NAME FILE VERB: the crate proved and the file built by `rt VERB`, where it is missing or out of date. Standard error shows how far that is.
+built() {
   local log=target/$1.log
-  [ -x "target/bin/$1" ] || echo "$1: proving and building the program first; that takes some minutes" >&2
+  [ -e "$2" ] || echo "$1: proving and building first; that takes some minutes" >&2
   mkdir -p target
-  if ! (set -o pipefail; rt check "$1" </dev/null 2>&1 | tee "$log" | progress "$1" >&2); then
+  if ! (set -o pipefail; rt "$3" "$1" </dev/null 2>&1 | tee "$log" | progress "$1" >&2); then
     cat "$log" >&2
     exit 1
   fi
+}
+
+# archive: the archive for C, beside include/
+archive() {
+  built calls target/staticlib/libcalls.a staticlib
+  mkdir -p lib
+  cp target/staticlib/libcalls.a lib/libbones.a
+}
+
+# start NAME: starts the program; standard output is the program's alone
+start() {
+  built "$1" "target/bin/$1" check
   exec "${starter[@]}" "target/bin/$1"
 }
