@@ -1,128 +1,120 @@
--- Laws of rows: the tallies of a bone changed pair by pair, each by that of another bone; and what was added is taken out again.
+-- Laws of rows: the tallies of a bone changed pair by pair, each by that of another bone; what was added is taken out again; and merges, which are rows
+-- added one after the other.
 -- Assumes nothing.
-use Prim.Native.Nat.{ℕ, _+_, _%_, _<_}
-use mathlib.Core.Path.{_≡_, refl, sym, _∙_}
+use Prim.Native.Nat.{ℕ, _+_, _%_, _≤_, _<_}
+use mathlib.Core.Path.{_≡_, refl, sym, _∙_, fun-ext}
 use mathlib.Core.Logic.{⊎-elim}
-use mathlib.Core.Bool.{Bool, not, _&&_, _||_}
+use mathlib.Core.Bool.{not, _&&_, _||_, Bool·beq}
 use mathlib.Core.List.{List}
 use native.Mathlib.Nat.{le-refl, mod-eq-of-lt}
 use native.Mathlib.Omega.{arith}
-use lib.Dec.{T, eqb, eqb→eq, T-not}
+use lib.Dec.{T, eqb, eqb→eq, eqb-refl, T-not}
 use lib.ListN.{length, getD}
+use lib.Seq.{ext-getD}
 use Rattle.meaning.specs.Count.{Bones, some}
 use Rattle.meaning.proofs.Tests.{_⇒_, imp, taut, so, _⊃_, both, decide, either, left-of, right-of, or-left, or-right, eq→eqb, neqb→ne, ne→neqb}
-use Rattle.links.specs.Table.{held, raised}
-use Rattle.links.proofs.TableHeld.{held-symmetric}
-use Rattle.links.proofs.TableRaised.{length-raised, held-raised, raised-elsewhere, held-raised-apart, same-table}
+use Rattle.meaning.proofs.Sets.{some-intro, some-elim}
+use Rattle.links.specs.Table.{spot, held, raised}
+use Rattle.links.proofs.TableSpots.{one-pair}
+use Rattle.links.proofs.TableRaised.{length-raised, held-raised, raised-elsewhere}
 use Rattle.weighing.specs.Lists.{listed, Once}
-use Rattle.weighing.specs.Merge.{touched, NoSpot, Row, RowAdded, RowTaken}
-use Rattle.weighing.proofs.Listing.{with-one, listed-more, listed-not}
+use Rattle.weighing.specs.Merge.{butFor, Row, RowAdded, RowTaken, Merges, Fold}
+use Rattle.weighing.proofs.Listing.{beq-same, with-one, listed-more, listed-low, listed-not, once-less}
 
--- which pairs are touched: tests that `taut` tries
-touched-less : (a c : ℕ) (R : Bones) (i j : ℕ) → T (not (touched a (with-one R c) i j)) → T (not (touched a R i j))
-unfolding touched
-touched-less a c R i j =
-    taut 6 (λ p q r s u v. not ((p && ((s || v) && not q)) || (q && ((r || u) && not p))) ⊃ so (not ((p && (s && not q)) || (q && (r && not p))))) tt
-    (eqb i a) (eqb j a) (R i) (R j) (eqb c i) (eqb c j)
+-- no pair yet
+pub row-start : {f : ℕ → ℕ} {Fits : ℕ → ℕ → Type 0} (t xs : List ℕ) (a b : ℕ) → length t ≡ 16384 → Row f Fits t t a b (butFor (listed xs 0) a)
+unfolding listed some
+row-start t xs a b long = record { long = long; long′ = long; fits = λ c h r. absurd r; hit = λ c h r. absurd r; miss = λ y n. refl }
 
-touched-on : (a : ℕ) (R : Bones) (i j : ℕ) → i ≡ a → T (R j) → (j ≡ a → ⊥) → (T (not (touched a R i j)) → ⊥) × (T (not (touched a R j i)) → ⊥)
-unfolding touched
-touched-on a R i j e r n =
-    let on = both (eqb i a) (R j && not (eqb j a)) (eq→eqb i a e) (both (R j) (not (eqb j a)) r (ne→neqb j a n)) in
-    let there = eqb i a && (R j && not (eqb j a)) in
-    let back = eqb j a && (R i && not (eqb i a)) in
-    (λ t. T-not (there || back) t (or-left there back on), λ t. T-not (back || there) t (or-right back there on))
+module _ {f : ℕ → ℕ} {Fits : ℕ → ℕ → Type 0} {t t′ : List ℕ} {a b : ℕ} {R : Bones} (ha : a < 128) (hb : b < 128) (ab : a ≡ b → ⊥) (row : Row f Fits t t′ a b R) where
+  -- the tallies of b with others than a stay
+  of-b : (c : ℕ) → c < 128 → (c ≡ a → ⊥) → held t′ b c ≡ held t b c
+  unfolding held
+  of-b c hc ca = row .miss (spot b c) (λ x l r e. ⊎-elim (λ q. ab (sym (q .0))) (λ q. ca (q .1)) (one-pair b c a x hb hc ha l e))
 
--- no pair of a with a bone that is not in R, and none without a
-untouched : (a : ℕ) (R : Bones) (i j : ℕ) → (j ≡ a → ⊥) → (i ≡ a → T (not (R j))) → T (not (touched a R i j))
-unfolding touched
-untouched a R i j g n =
-    taut 4 (λ p q r s. not q ⊃ (p ⇒ not s) ⊃ so (not ((p && (s && not q)) || (q && (r && not p))))) tt (eqb i a) (eqb j a) (R i) (R j)
-    (ne→neqb j a g)
-    (imp (eqb i a) (not (R j)) (λ e. n (eqb→eq i a e)))
+  -- one more bone
+  row-next : (c : ℕ) → c < 128 → (c ≡ a → ⊥) → T (not (R c)) → Fits (held t′ a c) (held t′ b c) → Row f Fits t (raised t′ a c (f (held t′ b c))) a b (with-one R c)
+  unfolding held
+  row-next c hc ca fresh fits =
+      record {
+        long = row .long;
+        long′ = length-raised t′ a c _ ∙ row .long′;
+        fits = λ x h r. ⊎-elim (row .fits x h) (λ s. rw (eqb→eq x c s) (rw (of-a, of-b c hc ca) at fits)) (either (R x) (eqb x c) r);
+        hit = λ x h r. ⊎-elim
+            (λ s. raised-elsewhere t′ a c _ (spot a x) (far x h s) ∙ row .hit x h s)
+            (λ s. rw (eqb→eq x c s) (held-raised t′ a c _ (row .long′) ha hc ∙ rw (of-a, of-b c hc ca)))
+            (either (R x) (eqb x c) r);
+        miss = λ y n. raised-elsewhere t′ a c _ y (n c hc (or-right (R c) (eqb c c) (eqb-refl c))) ∙ row .miss y (λ x l r. n x l (or-left (R x) (eqb x c) r));
+      }
+    where
+      far : (x : ℕ) → x < 128 → T (R x) → spot a x ≡ spot a c → ⊥
+      far x h s e = ⊎-elim (λ q. T-not (R c) fresh (rw (q .1) at s)) (λ q. ca (sym (q .0))) (one-pair a x a c ha h ha hc e)
 
-module _ {f : ℕ → ℕ} {Fits : ℕ → ℕ → Type 0} where
-  -- no pair yet
-  pub row-start : (t xs : List ℕ) (a b : ℕ) → length t ≡ 16384 → Row f Fits t t a b (listed xs 0)
-  unfolding listed some
-  row-start t xs a b long = record { long = long; long′ = long; fits = λ c h r. absurd r; hit = λ c h r. absurd r; miss = λ i j hi hj n. refl; elsewhere = λ y n. refl }
-
-  module _ {t t′ : List ℕ} {a b c : ℕ} {R : Bones} (row : Row f Fits t t′ a b R) where
-    -- a itself
-    row-skip : c ≡ a → Row f Fits t t′ a b (with-one R c)
-    row-skip e =
-        record {
-          long = row .long;
-          long′ = row .long′;
-          fits = λ x h r n. row .fits x h (was x r n) n;
-          hit = λ x h r n. row .hit x h (was x r n) n;
-          miss = λ i j hi hj n. row .miss i j hi hj (touched-less a c R i j n);
-          elsewhere = row .elsewhere;
-        }
-      where
-        was : (x : ℕ) → T (with-one R c x) → (x ≡ a → ⊥) → T (R x)
-        was x r n = ⊎-elim (λ s. s) (λ s. absurd (n (sym (eqb→eq c x s) ∙ e))) (either (R x) (eqb c x) r)
-
-    -- one more bone
-    row-next : a < 128 → b < 128 → c < 128 → (a ≡ b → ⊥) → (c ≡ a → ⊥) → T (not (R c)) → Fits (held t′ a c) (held t′ b c)
-        → Row f Fits t (raised t′ a c (f (held t′ b c))) a b (with-one R c)
-    unfolding NoSpot
-    row-next ha hb hc ab ca fresh fits =
-        record {
-          long = row .long;
-          long′ = length-raised t′ a c _ ∙ row .long′;
-          fits = λ x h r n. ⊎-elim (λ s. row .fits x h s n) (λ s. rw (← eqb→eq c x s) (rw (of-a, of-b) at fits)) (either (R x) (eqb c x) r);
-          hit = λ x h r n. ⊎-elim
-              (λ s. held-raised-apart t′ a c _ ha hc ha h (λ e. T-not (R c) fresh (rw (e .1) at s)) (λ e. ca (sym (e .0))) ∙ row .hit x h s n)
-              (λ s. rw (← eqb→eq c x s) (held-raised t′ a c _ (row .long′) ha hc ∙ rw (of-a, of-b)))
-              (either (R x) (eqb c x) r);
-          miss = λ i j hi hj n. held-raised-apart t′ a c _ ha hc hi hj
-              (λ e. touched-on a (with-one R c) i j (e .0) (new j (e .1)) (λ q. ca (sym (e .1) ∙ q)) .0 n)
-              (λ e. touched-on a (with-one R c) j i (e .1) (new i (e .0)) (λ q. ca (sym (e .0) ∙ q)) .1 n)
-              ∙ row .miss i j hi hj (touched-less a c R i j n);
-          elsewhere = λ y n. raised-elsewhere t′ a c _ y (λ e. n a c ha hc (sym e)) ∙ row .elsewhere y n;
-        }
-      where
-        of-a : held t′ a c ≡ held t a c
-        of-a = row .miss a c ha hc (untouched a R a c ca (λ e. fresh))
-
-        of-b : held t′ b c ≡ held t b c
-        of-b = row .miss b c hb hc (untouched a R b c ca (λ e. absurd (ab (sym e))))
-
-        new : (x : ℕ) → x ≡ c → T (with-one R c x)
-        new x e = or-right (R x) (eqb c x) (eq→eqb c x (sym e))
+      of-a : held t′ a c ≡ held t a c
+      of-a = row .miss (spot a c) (λ x l r e. far x l r (sym e))
 
 -- one turn of a loop over the places of a list: the bone c there is a itself, and no tally changes, or that of its pair does
 pub data Turn (f : ℕ → ℕ) (Fits : ℕ → ℕ → Type 0) (t t′ : List ℕ) (a b c : ℕ) : Type 0 where
   put : (by : ℕ) → (c ≡ a → ⊥) → by ≡ held t (b % 128) (c % 128) → Fits (held t (a % 128) (c % 128)) by → t′ ≡ raised t (a % 128) (c % 128) (f by) → Turn f Fits t t′ a b c
   skip : c ≡ a → t′ ≡ t → Turn f Fits t t′ a b c
 
+but-one : (R : Bones) (a c : ℕ) → (c ≡ a → ⊥) → butFor (with-one R c) a ≡ with-one (butFor R a) c
+but-one R a c n =
+    fun-ext (λ b. beq-same _ _ (taut 3 (λ r e q. (e ⇒ not q) ⊃ so (Bool·beq ((r || e) && not q) ((r && not q) || e))) tt
+    (R b) (eqb b c) (eqb b a) (imp (eqb b c) (not (eqb b a)) (λ t. ne→neqb b a (λ q. n (sym (eqb→eq b c t) ∙ q))))))
+
+but-none : (R : Bones) (a c : ℕ) → c ≡ a → butFor (with-one R c) a ≡ butFor R a
+but-none R a c s =
+    fun-ext (λ b. beq-same _ _ (taut 3 (λ r e q. (e ⇒ q) ⊃ so (Bool·beq ((r || e) && not q) (r && not q))) tt
+    (R b) (eqb b c) (eqb b a) (imp (eqb b c) (eqb b a) (λ t. eq→eqb b a (eqb→eq b c t ∙ s)))))
+
 pub row-turn : {f : ℕ → ℕ} {Fits : ℕ → ℕ → Type 0} {t t′ t″ xs : List ℕ} {a b c m i : ℕ} → Once xs m → i < m → a < 128 → b < 128 → (a ≡ b → ⊥)
-    → Row f Fits t t′ a b (listed xs i) → c ≡ getD xs i 0 → Turn f Fits t′ t″ a b c → Row f Fits t t″ a b (listed xs (i + 1))
-row-turn {xs = xs} {c = c} {i = i} single l ha hb ab row read (put by n e fits s) =
+    → Row f Fits t t′ a b (butFor (listed xs i) a) → c ≡ getD xs i 0 → Turn f Fits t′ t″ a b c → Row f Fits t t″ a b (butFor (listed xs (i + 1)) a)
+row-turn {xs = xs} {a = a} {c = c} {i = i} single l ha hb ab row read (put by n e fits s) =
     let hc : c < 128 = omega (arith, single .low i l) in
-    let new : T (not (listed xs i c)) = rw read (listed-not single i i (le-refl i) l) in
-    rw (listed-more, ← read, s, e, mod-eq-of-lt ha, mod-eq-of-lt hb, mod-eq-of-lt hc)
-    (row-next row ha hb hc ab n new (rw (e, mod-eq-of-lt ha, mod-eq-of-lt hb, mod-eq-of-lt hc) at fits))
-row-turn single l ha hb ab row read (skip e s) = rw (listed-more, ← read, s) (row-skip row e)
+    let new : T (not (butFor (listed xs i) a c)) = taut 2 (λ r q. not r ⊃ so (not (r && not q))) tt (listed xs i c) (eqb c a) (rw read (listed-not single i i (le-refl i) l)) in
+    rw (listed-more, ← read, but-one _ a c n, s, e, mod-eq-of-lt ha, mod-eq-of-lt hb, mod-eq-of-lt hc)
+    (row-next ha hb ab row c hc n new (rw (e, mod-eq-of-lt ha, mod-eq-of-lt hb, mod-eq-of-lt hc) at fits))
+row-turn {a = a} {c = c} single l ha hb ab row read (skip e s) = rw (listed-more, ← read, but-none _ a c e, s) row
 
 -- what was added and is taken out leaves what was there before
-pub row-back : {t t′ t″ : List ℕ} {a b : ℕ} {R : Bones} → b < 128 → (a ≡ b → ⊥) → RowAdded t t′ a b R → RowTaken t′ t″ a b R → t″ ≡ t
-unfolding NoSpot touched
-row-back {t} {t′} {t″} {a} {b} {R} hb ab added taken =
-    same-table t″ t (taken .long′) (added .long)
-    (λ i j hi hj. ⊎-elim
-    (λ s. ⊎-elim (of-a i j hj) (λ r. held-symmetric t″ i j ∙ of-a j i hi r ∙ held-symmetric t j i) (either (on i j) (on j i) s))
-    (λ n. taken .miss i j hi hj n ∙ added .miss i j hi hj n)
-    (decide (touched a R i j)))
-    (λ y n. taken .elsewhere y n ∙ added .elsewhere y n)
-  where
-    on : ℕ → ℕ → Bool
-    on i j = eqb i a && (R j && not (eqb j a))
+pub row-back : {t t′ t″ : List ℕ} {a b : ℕ} (R : Bones) → a < 128 → b < 128 → (a ≡ b → ⊥) → RowAdded t t′ a b (butFor R a) → RowTaken t′ t″ a b (butFor R a) → t″ ≡ t
+unfolding held
+row-back {t} {t′} {t″} {a} {b} R ha hb ab added taken =
+    ext-getD 0 t″ t (taken .long′ ∙ sym (added .long))
+    (λ y h. let touched : Bones = λ c. butFor R a c && eqb y (spot a c) in
+    ⊎-elim
+    (λ s. let (c, l, is) = some-elim 128 touched s in
+    let r = left-of (butFor R a c) _ is in
+    let same = of-b ha hb ab added c l (neqb→ne c a (right-of (R c) _ r)) in
+    rw (eqb→eq y (spot a c) (right-of (butFor R a c) _ is)) (omega (arith, same, added .fits c l r, added .hit c l r, taken .fits c l r, taken .hit c l r)))
+    (λ n. let off : (c : ℕ) → c < 128 → T (butFor R a c) → y ≡ spot a c → ⊥ = λ c l r e. T-not (some 128 touched) n (some-intro 128 touched c l (both (butFor R a c) _ r (eq→eqb y (spot a c) e))) in
+    taken .miss y off ∙ added .miss y off)
+    (decide (some 128 touched)))
 
-    of-a : (i j : ℕ) → j < 128 → T (on i j) → held t″ i j ≡ held t i j
-    of-a i j h s =
-        let r = left-of (R j) _ (right-of (eqb i a) _ s) in
-        let n = neqb→ne j a (right-of (R j) _ (right-of (eqb i a) _ s)) in
-        let of-b = added .miss b j hb h (untouched a R b j n (λ e. absurd (ab (sym e)))) in
-        rw (eqb→eq i a (left-of (eqb i a) _ s)) (omega (arith, of-b, added .fits j h r n, added .hit j h r n, taken .fits j h r n, taken .hit j h r n))
+-- ---- merges
+
+-- what a row wants of a bone and its head
+pub fold-place : {list into : List ℕ} {lo hi j s v : ℕ} → Once list hi → Fold list into lo s j s v → j < hi → (v < 128) × (getD list j 0 < 128) × (v ≡ getD list j 0 → ⊥) × Once list s
+fold-place {list} {j = j} {s = s} {v = v} single fold high =
+    let before = fold .upto in
+    let group = once-less {l = s} single (omega arith) in (
+      listed-low group v (fold .stands),
+      single .low j high,
+      λ e. T-not (listed list s (getD list j 0)) (listed-not single s j before high) (rw e at (fold .stands)),
+      group,
+    )
+
+module _ {list into start : List ℕ} {hi : ℕ} {t : List ℕ} where
+  pub merges-low : {lo : ℕ} {t′ : List ℕ} → Merges list into start hi t lo t′ → lo ≤ hi
+  merges-low Merges.none = le-refl hi
+  merges-low (Merges.more m row) = omega (arith, merges-low m)
+
+  pub merges-none : {lo : ℕ} {t′ : List ℕ} → Merges list into start hi t lo t′ → lo ≡ hi → t′ ≡ t
+  merges-none Merges.none e = refl
+  merges-none (Merges.more m row) e = absurd (omega (arith, merges-low m))
+
+  -- where u is what the last row was added to
+  pub merges-back : {lo : ℕ} {t″ u : List ℕ} → Merges list into start hi t lo t″ → lo < hi → ((t′ : List ℕ) → RowAdded t′ t″ (getD into lo 0) (getD list lo 0) (butFor (listed list (getD start lo 0)) (getD into lo 0)) → u ≡ t′) → Merges list into start hi t (lo + 1) u
+  merges-back Merges.none l was = absurd (omega arith)
+  merges-back (Merges.more {t′ = t′} m row) l was = rw (was t′ row) m

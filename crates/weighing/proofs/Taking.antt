@@ -15,7 +15,7 @@ use Rattle.meaning.proofs.Sums.{sum-ext, sum-add, sum-zero, sum-at}
 use Rattle.meaning.proofs.Totals.{Pairs, parts, Symmetric, total-mono, total-parts, total-ext}
 use Rattle.meaning.proofs.Firm.{other, weight-other, weight-within}
 use Rattle.weighing.specs.Scan.{Tied}
-use Rattle.weighing.proofs.Listing.{cond-no}
+use Rattle.weighing.proofs.Listing.{cond-no, cond-and, cond-or}
 
 -- two tests that never pass together weigh no more than one that holds both
 pub total-two : (n : ℕ) (w : Tally) (R P Q : Pairs) → ((i j : ℕ) → i < n → j < n → T ((P i j ⇒ R i j) && (Q i j ⇒ R i j) && not (P i j && Q i j))) → total n w P + total n w Q ≤ total n w R
@@ -32,21 +32,20 @@ same-beq a b e = rw e (taut 1 (λ c. so (Bool·beq c c)) tt b)
 pub at-bone : (P : Bones) (x y : ℕ) → T (P x) → T (eqb y x ⇒ P y)
 at-bone P x y t = imp (eqb y x) (P y) (λ e. rw (eqb→eq y x e) t)
 
-pub cond-and : (a b : Bool) (x : ℕ) → cond (a && b) x 0 ≡ cond a (cond b x 0) 0
-cond-and true b x = refl
-cond-and false b x = refl
-
 pub cond-out : (n : ℕ) (t : Bool) (f : ℕ → ℕ) → sum n (λ j. cond t (f j) 0) ≡ cond t (sum n f) 0
 cond-out n true f = refl
 cond-out n false f = sum-zero n
 
--- one pair alone
-pub total-one : (n : ℕ) (w : Tally) (u x : ℕ) → u < n → x < n → total n w (λ i j. eqb i u && eqb j x) ≡ w u x
+-- the pairs of one bone, and one pair alone
+pub total-at : (n : ℕ) (w : Tally) (x : ℕ) (P : Pairs) → x < n → total n w (λ i j. eqb i x && P i j) ≡ sum n (λ j. cond (P x j) (w x j) 0)
 unfolding total
-total-one n w u x hu hx =
-    sum-ext n _ (λ i. cond (eqb i u) (w i x) 0)
-    (λ i hi. sum-ext n _ _ (λ j hj. cond-and (eqb i u) (eqb j x) (w i j)) ∙ cond-out n (eqb i u) (λ j. cond (eqb j x) (w i j) 0) ∙ ap (λ (y : ℕ). cond (eqb i u) y 0) (sum-at n x (λ j. w i j) hx))
-    ∙ sum-at n u (λ i. w i x) hu
+total-at n w x P low =
+    sum-ext n _ (λ i. cond (eqb i x) (sum n (λ j. cond (P i j) (w i j) 0)) 0)
+    (λ i hi. sum-ext n _ _ (λ j hj. cond-and (eqb i x) (P i j) (w i j)) ∙ cond-out n (eqb i x) (λ j. cond (P i j) (w i j) 0))
+    ∙ sum-at n x (λ i. sum n (λ j. cond (P i j) (w i j) 0)) low
+
+pub total-one : (n : ℕ) (w : Tally) (u x : ℕ) → u < n → x < n → total n w (λ i j. eqb i u && eqb j x) ≡ w u x
+total-one n w u x hu hx = total-at n w u (λ i j. eqb j x) hu ∙ sum-at n x (w u) hx
 
 -- the tally between a set and a bone
 unfoldable pub tie : Tally → Bones → ℕ → ℕ
@@ -104,14 +103,9 @@ module _ (w : Tally) (symmetric : Symmetric w) (L free free′ : Bones) (u : ℕ
   unfolding tie
   tie-taken x =
       rw one-more
-      (sum-ext 128 _ _ (λ i h. join (taken L free i) (eqb i u) (w i x) (at-bone (other (taken L free)) u i (free-not u isfree)))
+      (sum-ext 128 _ _ (λ i h. cond-or (taken L free i) (eqb i u) (w i x) (at-bone (other (taken L free)) u i (free-not u isfree)))
       ∙ sum-add 128 (λ i. cond (taken L free i) (w i x) 0) (λ i. cond (eqb i u) (w i x) 0)
       ∙ (rw (sum-at 128 u (λ i. w i x) low)))
-    where
-      join : (a e : Bool) (y : ℕ) → T (e ⇒ not a) → cond (a || e) y 0 ≡ cond a y 0 + cond e y 0
-      join true true y t = absurd t
-      join true false y t = omega arith
-      join false e y t = omega arith
 
   -- the bound goes on: u, one with the greatest tally, is the bone taken last
   pub bounded-taken : (v : ℕ) → Bounded w L free v → Greatest w L free u → Bounded w L free′ u
@@ -147,10 +141,6 @@ module _ (w : Tally) (symmetric : Symmetric w) (L free free′ : Bones) (u : ℕ
           (or-left (taken L free u || eqb u u) (eqb u x) (or-right (taken L free u) (eqb u u) (eqb-refl u))) (or-right (taken L free x || eqb x u) (eqb x x) (eqb-refl x)) apart du dx)
 
 module _ (w : Tally) (symmetric : Symmetric w) (L free : Bones) (within : (b : ℕ) → T (free b) → T (L b)) where
-  -- nothing taken, nothing to bound
-  pub bounded-none : (v : ℕ) → ((b : ℕ) → T (L b) → T (free b)) → Bounded w L free v
-  bounded-none v all d x xlow xfree dv dx = omega (arith, tie-none w L free x all)
-
   -- a light split does not part a bone of tally k or more from the bone taken last
   pub light-ties : (k u v : ℕ) → Bounded w L free v → u < 128 → T (free u) → k ≤ tie w (taken L free) u → Tied w k L v u
   unfolding Tied taken

@@ -8,7 +8,7 @@ use Rattle.meaning.specs.Count.{Bones, some}
 
 -- bone b stands in one of the first m places
 unfoldable pub listed : List ℕ → ℕ → Bones
-listed xs m b = some m (λ i. eqb (getD xs i 0) b)
+listed xs m b = some m (λ i. eqb b (getD xs i 0))
 
 -- the first m places hold bones, each once
 pub record Once (xs : List ℕ) (m : ℕ) : Type 0 where
@@ -18,7 +18,7 @@ pub record Once (xs : List ℕ) (m : ℕ) : Type 0 where
   pub once : (i j : ℕ) → i < m → j < m → getD xs i 0 ≡ getD xs j 0 → i ≡ j
 
 -- two places change what they hold
-unfoldable pub swapped : List ℕ → ℕ → ℕ → List ℕ
+abbrev pub swapped : List ℕ → ℕ → ℕ → List ℕ
 swapped xs i j = set (set xs i (getD xs j 0)) j (getD xs i 0)
 
 -- the marks that a run holds

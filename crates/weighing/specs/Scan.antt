@@ -15,16 +15,12 @@ use Rattle.weighing.specs.Lists.{listed, Once, marked}
 unfoldable pub Tied : Tally → ℕ → Bones → ℕ → ℕ → Type 0
 Tied w k L x y = (d : Bones) → weight 128 w L d < k → d x ≡ d y
 
--- what the bone in place i has when the tally of bone u is added to what it had
-unfoldable pub near : Tally → List ℕ → ℕ → ℕ → List ℕ → ℕ
-near w order u i attach = getD attach (getD order i 0) 0 + w u (getD order i 0)
-
--- the bone in place i is reached from bone u: it has its tally in addition, and is the greatest from now on, or is not
-pub record Looked (w : Tally) (order : List ℕ) (u i : ℕ) (attach attach′ : List ℕ) (place top out place′ top′ out′ : ℕ) : Type 0 where
-  pub stored : attach′ ≡ set attach (getD order i 0) (near w order u i attach)
-  pub small : w u (getD order i 0) < 2 ^ 32
-  pub sums : out′ ≡ out + near w order u i attach
-  pub best : ((place′ ≡ i) × (top′ ≡ near w order u i attach) × (top ≤ near w order u i attach)) ⊎ ((place′ ≡ place) × (top′ ≡ top) × (near w order u i attach < top))
+-- the bone x in place i is reached: it has the tally n in addition, and is the greatest from now on, or is not
+pub record Looked (n x i : ℕ) (attach attach′ : List ℕ) (place top out place′ top′ out′ : ℕ) : Type 0 where
+  pub stored : attach′ ≡ set attach x (getD attach x 0 + n)
+  pub small : n < 2 ^ 32
+  pub sums : out′ ≡ out + (getD attach x 0 + n)
+  pub best : ((place′ ≡ i) × (top′ ≡ getD attach x 0 + n) × (top ≤ getD attach x 0 + n)) ⊎ ((place′ ≡ place) × (top′ ≡ top) × (getD attach x 0 + n < top))
 
 -- the tally of bone u is added for the bones in the first m places: what each of them then has, the greatest of these and its place, and their sum
 pub record Reached (w : Tally) (order : List ℕ) (u m : ℕ) (attach attach′ : List ℕ) (place top out : ℕ) : Type 0 where
@@ -38,15 +34,19 @@ pub record Reached (w : Tally) (order : List ℕ) (u m : ℕ) (attach attach′ 
   pub sums : out ≡ sum m (λ i. getD attach′ (getD order i 0) 0)
   pub most : out ≤ m * 2 ^ 41
 
--- what a pass leaves: the bones in the order of taking, the last first, with a mark for each that is tied to the one taken before it; or, where
--- it is light, a split: the bones in the first places, which were still free
-pub record Passed (w : Tally) (k : ℕ) (before order joins : List ℕ) (count : ℕ) (light : Bool) (weighs left : ℕ) : Type 0 where
+-- the bones of `before` in another order, and a mark for each of 128
+pub record Ordered (before order joins : List ℕ) (count : ℕ) : Type 0 where
   pub once : Once order count
   pub same : (b : ℕ) → listed order count b ≡ listed before count b
   pub long : length joins ≡ 128
-  pub some-left : light ≡ true → 0 < left
-  pub some-taken : light ≡ true → left < count
-  pub true-weight : light ≡ true → weighs ≡ weight 128 w (listed before count) (listed order left)
-  pub is-light : light ≡ true → weighs < k
-  pub tied : light ≡ false → (i : ℕ) → i + 1 < count → T (marked joins i) → Tied w k (listed before count) (getD order (i + 1) 0) (getD order i 0)
-  pub last : light ≡ false → 1 < count → T (marked joins 0)
+
+-- where a pass is light, a split of L: the bones in the first places, which were still free; or a mark for each that is tied to the one taken before it
+abbrev pub Found : Tally → ℕ → Bones → List ℕ → List ℕ → ℕ → ℕ → ℕ → Bool → Type 0
+Found w k L order joins count weighs left true = (0 < left) × (left < count) × (weighs ≡ weight 128 w L (listed order left)) × (weighs < k)
+Found w k L order joins count weighs left false =
+    ((i : ℕ) → i + 1 < count → T (marked joins i) → Tied w k L (getD order (i + 1) 0) (getD order i 0)) × (1 < count → T (marked joins 0))
+
+-- what a pass leaves: the bones in the order of taking, the last first, and what it found
+pub record Passed (w : Tally) (k : ℕ) (before order joins : List ℕ) (count : ℕ) (light : Bool) (weighs left : ℕ) : Type 0 where
+  pub ordered : Ordered before order joins count
+  pub found : Found w k (listed before count) order joins count weighs left light

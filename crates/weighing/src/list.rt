@@ -7,7 +7,7 @@ ghost use lib.ListN.{length, getD};
 ghost use Rattle.meaning.specs.Heap.{pile};
 ghost use Rattle.weighing.specs.Side.{heapOf};
 ghost use Rattle.weighing.specs.Lists.{listed, Once, swapped};
-ghost use Rattle.weighing.specs.Merge.{unmarked, Laid};
+ghost use Rattle.weighing.specs.Merge.{unmarked, Long, Laid};
 
 // 1 where bone b is in the pile, else 0.
 fn is_in(names: &[u8; 128], n: usize, p: usize, b: usize) -> usize
@@ -68,7 +68,7 @@ pub(crate) fn lay(
     start: &mut [u8; 128],
 )
     requires { ⌜ (0 < count) × Once (now order) count × (heads ≡ unmarked (now joins) (count - 1) + 1) ⌝ }
-    requires { ⌜ (length (now list) ≡ 128) × (length (now into) ≡ 128) × (length (now start) ≡ 128) ⌝ }
+    requires { ⌜ Long (now list) (now into) (now start) ⌝ }
     ensures { λ _. ⌜ Laid (now (order .entry)) (now (joins .entry)) count heads (now (list .entry)) (now (into .entry)) (now (start .entry)) (now (list .exit)) (now (into .exit)) (now (start .exit)) ⌝ }
 {
     let mut head = order[count - 1];

@@ -8,12 +8,12 @@ ghost use mathlib.Core.List.{List};
 ghost use Prim.Native.Nat.{ℕ, _<_, _≤_};
 ghost use lib.ListN.{length};
 ghost use Rattle.weighing.specs.Lists.{listed, Once};
-ghost use Rattle.weighing.specs.Merge.{RowAdded, RowTaken, Merges, Folded};
+ghost use Rattle.weighing.specs.Merge.{butFor, RowAdded, RowTaken, Merges, Folded};
 
 // The tallies of b with the bones in the first m places, but for a, go to those of a.
 fn add_row(table: &mut [u32; 16384], list: &[u8; 128], m: usize, a: usize, b: usize)
     requires { ⌜ (length (now table) ≡ 16384) × (a < 128) × (b < 128) × (a ≡ b → ⊥) × Once (now list) m ⌝ }
-    ensures { λ _. ⌜ RowAdded (now (table .entry)) (now (table .exit)) a b (listed (now (list .entry)) m) ⌝ }
+    ensures { λ _. ⌜ RowAdded (now (table .entry)) (now (table .exit)) a b (butFor (listed (now (list .entry)) m) a) ⌝ }
 {
     for i in 0..m {
         let c = bone(list[i]);
@@ -46,7 +46,7 @@ pub(crate) fn merge(
 // The tallies of b with the bones in the first m places, but for a, are taken out of those of a again.
 fn take_row(table: &mut [u32; 16384], list: &[u8; 128], m: usize, a: usize, b: usize)
     requires { ⌜ (length (now table) ≡ 16384) × (a < 128) × (b < 128) × (a ≡ b → ⊥) × Once (now list) m ⌝ }
-    ensures { λ _. ⌜ RowTaken (now (table .entry)) (now (table .exit)) a b (listed (now (list .entry)) m) ⌝ }
+    ensures { λ _. ⌜ RowTaken (now (table .entry)) (now (table .exit)) a b (butFor (listed (now (list .entry)) m) a) ⌝ }
 {
     for i in 0..m {
         let c = bone(list[i]);

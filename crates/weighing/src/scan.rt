@@ -30,7 +30,7 @@ fn look(
 ) -> Best
     requires { ⌜ (u < 128) × (i < 128) × (getD (now order) i 0 < 128) × (length (now attach) ≡ 128) ⌝ }
     requires { ⌜ (getD (now attach) (getD (now order) i 0) 0 ≤ 2 ^ 40) × (got .out ≤ 2 ^ 50) ⌝ }
-    ensures { λ r. ⌜ Looked (held (now (table .entry))) (now (order .entry)) u i (now (attach .entry)) (now (attach .exit)) (got .place) (got .top) (got .out) (r .place) (r .top) (r .out) ⌝ }
+    ensures { λ r. ⌜ Looked (held (now (table .entry)) u (getD (now (order .entry)) i 0)) (getD (now (order .entry)) i 0) i (now (attach .entry)) (now (attach .exit)) (got .place) (got .top) (got .out) (r .place) (r .top) (r .out) ⌝ }
 {
     let x = bone(order[i]);
     let near = attach[x] + tally_between(table, u, x);

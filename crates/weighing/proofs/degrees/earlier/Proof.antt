@@ -1,10 +1,9 @@
 -- `weighing::degrees::earlier` meets its contract: the pair stands in the row of its greater bone, which is i.
 -- Assumes nothing.
-use Prim.Native.Nat.{ℕ, _+_, _*_, _≤_}
-use mathlib.Core.Path.{_≡_, _∙_, ap}
+use Prim.Native.Nat.{_+_, _*_, _≤_}
+use mathlib.Core.Path.{_≡_}
 use mathlib.Core.Bool.{cond}
 use native.Mathlib.Omega.{arith}
-use lib.ListN.{getD}
 use Rattle.links.specs.Table.{spot, held}
 use Rattle.weighing.specs.Side.{heapOf}
 use Rattle.weighing.specs.Degrees.{mate}
@@ -17,15 +16,8 @@ use Rattle.weighing.proofs.degrees.earlier.Tie as tie
 term : (c : tie.After-alike) → let a = c .before .before .before .args in (c .before .wide .result * c .alike .result ≡ cond (mate (heapOf (a .names .now)) (a .i) (a .j)) (c .before .wide .result) 0) × (c .before .wide .result * c .alike .result ≤ c .before .wide .result)
 term c = let a = c .before .before .before .args in product (c .before .wide .result) (mate (heapOf (a .names .now)) (a .i) (a .j)) (c .alike .ensures)
 
-returns : tie.Need-returns
-unfolding held spot
-returns c =
-    let a = c .before .before .before .args in
-    let at : a .i * 128 + a .j ≡ spot (a .i) (a .j) = omega arith in
-    term c .0
-    ∙ ap (λ (x : ℕ). cond (mate (heapOf (a .names .now)) (a .i) (a .j)) x 0) (c .before .wide .ensures .0 ∙ ap (λ (s : ℕ). getD (a .table .now) s 0) at)
-
 pub earlier-spec : {M : Type 1} → statement M
+unfolding held spot
 earlier-spec =
     tie.close
     (tie.spec
@@ -37,4 +29,6 @@ earlier-spec =
     (λ c κs. search needs)
     (λ c. record { fits = omega (arith, term c, c .before .wide .ensures .1) })
     (λ c. record { fits = omega (arith, term c, c .before .wide .ensures .1) })
-    returns)
+    (λ c. let a = c .before .before .before .args in
+    let at : spot (a .i) (a .j) ≡ a .i * 128 + a .j = omega arith in
+    rw (at, ← c .before .wide .ensures .0) (term c .0)))

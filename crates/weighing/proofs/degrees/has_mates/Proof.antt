@@ -1,48 +1,16 @@
 -- `weighing::degrees::has_mates` meets its contract: by the three tests on the way.
 -- Assumes nothing.
-use mathlib.Core.Path.{sym, _∙_, ap}
-use native.Mathlib.Omega.{arith}
+use mathlib.Core.Path.{_∙_}
 use borrow.Author.Needs.{needs}
-use Rattle.meaning.specs.Heap.{stands}
-use Rattle.meaning.proofs.Heaps.{pile-bone, pile-name}
+use borrow.Author.Tests.{lt-ltb, le-ltb, eq-eqb, ne-eqb}
+use Rattle.meaning.specs.Heap.{pile, stands}
 use Rattle.weighing.specs.Side.{heapOf}
-use Rattle.weighing.proofs.Lone.{joined-yes, joined-no, joined-low, joined-stands}
+use Rattle.weighing.specs.Degrees.{joined}
 use Rattle.weighing.proofs.degrees.has_mates.Statement.{statement}
 use Rattle.weighing.proofs.degrees.has_mates.Tie as tie
 
-returns : tie.Need-returns
-unfolding heapOf
-returns c =
-    let a = c .before .before .before .before .before .before .before .before .args in
-    let h = heapOf (a .names .now) in
-    let p = c .before .before .before .before .before .bone .ensures .0 in
-    c .another .ensures
-    ∙ joined-yes (a .n) h (a .u) (c .before .before .before .before .before .before .before .if1 .taken) (omega (arith, p, c .before .before .before .before .if2 .taken)) (ap h (sym p) ∙ sym (c .before .before .bone2 .ensures .0) ∙ c .before .if3 .taken ∙ p)
-
-returns-2 : tie.Need-returns-2
-unfolding heapOf stands
-returns-2 c =
-    let a = c .before .before .before .before .before .before .before .args in
-    let h = heapOf (a .names .now) in
-    let p = c .before .before .before .before .bone .ensures .0 in
-    joined-no (a .n) h (a .u)
-    (λ t. c .if3 .left (c .before .bone2 .ensures .0 ∙ ap h p ∙ pile-name (a .n) h (h (a .u)) (h (a .u)) (joined-stands (a .n) h (a .u) t) ∙ sym p))
-
-returns-3 : tie.Need-returns-3
-unfolding heapOf stands
-returns-3 c =
-    let a = c .before .before .before .before .args in
-    let h = heapOf (a .names .now) in
-    joined-no (a .n) h (a .u)
-    (λ t. omega (arith, c .before .bone .ensures .0, c .if2 .left, pile-bone (a .n) h (h (a .u)) (h (a .u)) (joined-stands (a .n) h (a .u) t)))
-
-returns-4 : tie.Need-returns-4
-returns-4 c =
-    let a = c .before .args in
-    let h = heapOf (a .names .now) in
-    joined-no (a .n) h (a .u) (λ t. omega (arith, joined-low (a .n) h (a .u) t, c .if1 .left))
-
 pub has-mates-spec : {M : Type 1} → statement M
+unfolding heapOf joined stands pile
 has-mates-spec =
     tie.close
     (tie.spec
@@ -51,7 +19,10 @@ has-mates-spec =
     (λ c. search needs)
     (λ c κs. search needs)
     (λ c κs. search needs)
-    returns
-    returns-2
-    returns-3
-    returns-4)
+    (λ c. let s = c .before .before .before .before .before in
+    c .another .ensures
+    ∙ rw (lt-ltb _ _ (s .before .before .if1 .taken), ← s .bone .ensures .0, lt-ltb _ _ (c .before .before .before .before .if2 .taken), ← c .before .before .bone2 .ensures .0, eq-eqb _ _ (c .before .if3 .taken)))
+    (λ c. let s = c .before .before .before .before in
+    rw (lt-ltb _ _ (s .before .before .if1 .taken), ← s .bone .ensures .0, lt-ltb _ _ (c .before .before .before .if2 .taken), ← c .before .bone2 .ensures .0, ne-eqb _ _ (c .if3 .left)))
+    (λ c. rw (lt-ltb _ _ (c .before .before .before .if1 .taken), ← c .before .bone .ensures .0, le-ltb _ _ (c .if2 .left)))
+    (λ c. rw (le-ltb _ _ (c .if1 .left))))

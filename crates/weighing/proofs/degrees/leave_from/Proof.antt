@@ -1,75 +1,45 @@
 -- `weighing::degrees::leave_from` meets its contract. The invariant: what the bones of x below b took is lost.
 -- Assumes nothing.
-use Prim.Native.Nat.{ℕ, _≤_, zero-le, _+_, _-_}
-use mathlib.Core.Path.{subst, _≡_, sym, _∙_, ap}
+use Prim.Native.Nat.{_≤_, zero-le, _-_}
+use mathlib.Core.Path.{_≡_}
 use mathlib.Core.Logic.{⊎-elim}
-use mathlib.Core.List.{List}
 use native.Mathlib.Omega.{arith}
+use borrow.Author.Tests.{le-ltb, eq-eqb, ne-eqb}
+use Rattle.meaning.specs.Count.{sum}
+use Rattle.meaning.specs.Heap.{pile}
 use Rattle.links.proofs.TableHeld.{held-symmetric}
 use Rattle.links.specs.Table.{held}
 use Rattle.weighing.specs.Side.{heapOf}
-use Rattle.weighing.specs.Degrees.{lost, Notes, Lessened}
-use Rattle.weighing.proofs.Noting.{less-same, less-none, less-then, lost-none, lost-next, lost-skip, lost-all, lostBy}
+use Rattle.weighing.specs.Degrees.{toward, lost, Notes, Lessened}
+use Rattle.weighing.proofs.Listing.{cond-none}
+use Rattle.weighing.proofs.Noting.{less-same, less-none, less-then, lost-next, lostBy}
 use Rattle.weighing.proofs.degrees.leave_from.Statement.{statement}
 use Rattle.weighing.proofs.degrees.leave_from.Tie as tie
 
-abbrev Inv-loop : tie.InvT-loop
-Inv-loop table names n x y degrees₀ bones b₀ degrees b = (b ≤ bones) × (Notes degrees₀ → Lessened (lostBy b bones (held table) (heapOf names) x y) degrees₀ degrees)
-
-abbrev μ-loop : tie.MeasureT-loop
-μ-loop table names n x y degrees₀ bones b₀ degrees b = bones - b
-
-loop-holds : tie.Need-loop-holds Inv-loop μ-loop
-loop-holds c =
-    let a = c .before .args in
-    let n = c .at-most-128 .result in
-    let h = heapOf (a .names .now) in
-    (zero-le, λ notes. less-same (lost-none n (held (a .table .now)) h (a .x) (a .y)) (less-none notes))
-
-loop-again : tie.Need-loop-again Inv-loop μ-loop
-unfolding heapOf
-loop-again c =
-    let a = c .before .before .before .before .before .args in
-    let l = c .before .before .before .loop in
-    let n = c .before .before .before .before .at-most-128 .result in
-    let w = held (a .table .now) in
-    let h = heapOf (a .names .now) in
-    let symmetric = held-symmetric (a .table .now) in (
-      omega arith,
-      λ notes. let so = l .inv .1 notes in
-          ⊎-elim
-          (λ v. subst (λ (d : List ℕ). Lessened (lostBy (l .b + 1) n w h (a .x) (a .y)) (a .degrees .now) d) (sym (v .3))
-          (less-same (lost-next n w h (a .x) (a .y) symmetric (l .b) (v .0 .taken)) (less-then so (v .2 .ensures (so .notes)))))
-          (λ v. subst (λ (d : List ℕ). Lessened (lostBy (l .b + 1) n w h (a .x) (a .y)) (a .degrees .now) d) (sym (v .1))
-          (less-same (lost-skip n w h (a .x) (a .y) (l .b) (v .0 .left)) so))
-          (c .if1 .came),
-    )
-
-returns : tie.Need-returns Inv-loop μ-loop
-returns c =
-    let a = c .before .before .before .args in
-    let l = c .before .loop in
-    let n = c .before .before .at-most-128 in
-    let w = held (a .table .now) in
-    let h = heapOf (a .names .now) in
-    let done : l .b ≡ n .result = omega arith in
-    λ notes. less-same
-    (λ b. ap (λ (m : ℕ). lostBy m (n .result) w h (a .x) (a .y) b) done
-    ∙ lost-all (n .result) w h (a .x) (a .y) b
-    ∙ ap (λ (m : ℕ). lost m w h (a .x) (a .y) b) (n .ensures .0))
-    (l .inv .1 notes)
-
 pub leave-from-spec : {M : Type 1} → statement M
+unfolding heapOf lostBy lost pile toward sum
 leave-from-spec =
     tie.close
     (tie.spec
-    Inv-loop
-    μ-loop
+    (λ table names n x y degrees₀ bones b₀ degrees b. (b ≤ bones) × (Notes degrees₀ → Lessened (lostBy b bones (held table) (heapOf names) x y) degrees₀ degrees))
+    (λ table names n x y degrees₀ bones b₀ degrees b. bones - b)
     (λ c κs. omega arith)
-    loop-holds
+    (λ c. (zero-le, λ notes. less-same (λ b. rw (le-ltb b 0 zero-le, cond-none)) (less-none notes)))
     (λ c. omega arith)
     (λ c κs. omega arith)
     (λ c. omega arith)
     (λ c. omega arith)
-    loop-again
-    returns)
+    (λ c. let a = c .before .before .before .before .before .args in
+    let l = c .before .before .before .loop in
+    let step = lost-next (c .before .before .before .before .at-most-128 .result) (held (a .table .now)) (heapOf (a .names .now)) (a .x) (a .y) (held-symmetric (a .table .now)) (l .b) in (
+      omega arith,
+      λ notes. let so = l .inv .1 notes in
+          ⊎-elim
+          (λ v. rw (v .3) (less-same (λ b. rw (eq-eqb _ _ (v .0 .taken)) at (step b)) (less-then so (v .2 .ensures (so .notes)))))
+          (λ v. rw (v .1) (less-same (λ b. omega (arith, rw (ne-eqb _ _ (v .0 .left)) at (step b))) so))
+          (c .if1 .came),
+    ))
+    (λ c. let l = c .before .loop in
+    let n = c .before .before .at-most-128 in
+    let done : l .b ≡ n .result = omega arith in
+    rw (← n .ensures .0) (rw done at (l .inv .1))))

@@ -1,14 +1,14 @@
 -- `weighing::degrees::lone_side` meets its contract: by whether u names the pile.
 -- Assumes nothing.
-use mathlib.Core.Path.{refl, sym, _∙_, ap}
-use mathlib.Core.Bool.{Bool, _||_}
+use mathlib.Core.Path.{refl, sym, _∙_}
 use native.Mathlib.Omega.{arith}
 use borrow.Author.Needs.{needs}
-use lib.Dec.{eqb}
+use borrow.Author.Tests.{ne-eqb}
 use Rattle.meaning.proofs.Tests.{fails}
 use Rattle.weighing.specs.Side.{heapOf}
-use Rattle.weighing.proofs.SideBits.{side-none}
-use Rattle.weighing.proofs.Lone.{moves-named, moves-lone, others-side}
+use Rattle.weighing.specs.Degrees.{moves}
+use Rattle.weighing.proofs.Moving.{side-none}
+use Rattle.weighing.proofs.Noting.{moves-apart, one-mark}
 use Rattle.weighing.proofs.degrees.lone_side.Statement.{statement}
 use Rattle.weighing.proofs.degrees.lone_side.Tie as tie
 
@@ -19,17 +19,14 @@ returns : tie.Need-returns
 unfolding heapOf
 returns c =
     let s = c .before .before .before .before .before in
-    let a = s .args in
+    let u = s .args .u in
     let named = sym (c .before .before .before .bone .ensures .0) ∙ c .before .before .if1 .taken in
-    λ b. c .side-of .ensures b ∙ others-side (a .n) (heapOf (a .names .now)) (a .u) b 128 (omega (arith, s .pre)) named ∙ sym (moves-named (a .n) (heapOf (a .names .now)) (a .u) b named)
+    λ b. c .side-of .ensures b ∙ rw (moves-apart (s .args .n) (λ i j. 0) (heapOf (s .args .names .now)) u (s .pre .1) b, named, one-mark u b 128 (omega (arith, s .pre)), one-mark u u 128 (omega (arith, s .pre)))
 
 returns-2 : tie.Need-returns-2
-unfolding heapOf
+unfolding heapOf moves
 returns-2 c =
-    let a = c .before .before .before .before .before .args in
-    λ b. c .put .ensures .1 b
-    ∙ ap (λ (t : Bool). t || eqb b (a .u)) (side-none 16 b)
-    ∙ sym (moves-lone (a .n) (heapOf (a .names .now)) (a .u) b (λ e. c .before .before .if1 .left (c .before .before .before .bone .ensures .0 ∙ e)))
+    λ b. c .put .ensures .1 b ∙ rw (side-none 16 b, ne-eqb _ _ (λ e. c .before .before .if1 .left (c .before .before .before .bone .ensures .0 ∙ e)))
 
 pub lone-side-spec : {M : Type 1} → statement M
 lone-side-spec =

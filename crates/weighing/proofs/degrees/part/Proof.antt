@@ -6,14 +6,8 @@ use Rattle.weighing.proofs.Noting.{less-at}
 use Rattle.weighing.proofs.degrees.part.Statement.{statement}
 use Rattle.weighing.proofs.degrees.part.Tie as tie
 
-returns : tie.Need-returns
-unfolding parting
-returns c =
-    let t = c .before .before .take-out in
-    let s = c .wrapping-sub-u32 in
-    λ notes. less-at (c .before .before .before .before .args .b) _ (s .result) (omega arith) (omega (arith, s .ok)) (omega (arith, s .ensures, t .ensures .0)) (t .ensures .1 notes)
-
 pub part-spec : {M : Type 1} → statement M
+unfolding parting
 part-spec =
     tie.close
     (tie.spec
@@ -24,4 +18,6 @@ part-spec =
     (λ c κs. search needs)
     (λ c. search needs)
     (λ c. search needs)
-    returns)
+    (λ c. let t = c .before .before .take-out in
+    let s = c .wrapping-sub-u32 in
+    λ notes. less-at (c .before .before .before .before .args .b) _ (s .result) (omega arith) (omega (arith, s .ok)) (omega (arith, s .ensures, t .ensures .0)) (t .ensures .1 notes)))

@@ -5,18 +5,12 @@ use native.Mathlib.Omega.{arith}
 use Rattle.weighing.proofs.degrees.size.Statement.{statement}
 use Rattle.weighing.proofs.degrees.size.Tie as tie
 
-abbrev Inv-loop : tie.InvT-loop
-Inv-loop names n name bones count₀ b₀ count b = (b ≤ bones) × (count ≤ b)
-
-abbrev μ-loop : tie.MeasureT-loop
-μ-loop names n name bones count₀ b₀ count b = bones - b
-
 pub size-spec : {M : Type 1} → statement M
 size-spec =
     tie.close
     (tie.spec
-    Inv-loop
-    μ-loop
+    (λ names n name bones count₀ b₀ count b. (b ≤ bones) × (count ≤ b))
+    (λ names n name bones count₀ b₀ count b. bones - b)
     (λ c κs. tt)
     (λ c. omega arith)
     (λ c. omega arith)

@@ -16,11 +16,6 @@ Inv-loop order joins count heads list₀ into₀ start₀ head₀ group₀ front
 abbrev μ-loop : tie.MeasureT-loop
 μ-loop order joins count heads list₀ into₀ start₀ head₀ group₀ front₀ back₀ i₀ list into start head group front back i = i
 
-loop-holds : tie.Need-loop-holds Inv-loop μ-loop
-loop-holds c =
-    let s = c .before in
-    laying-start (s .pre .0 .1) (s .args .list .now) (s .args .into .now) (s .args .start .now) (s .pre .0 .0) (s .pre .0 .2) (s .pre .1 .0) (s .pre .1 .1) (s .pre .1 .2)
-
 -- where a bone is tied, there is room behind
 room : (c : lts.Then1 reads.Pre reads.Post Inv-loop μ-loop) → c .before .before .before .before .loop .back < 128
 unfolding marked
@@ -29,15 +24,8 @@ room c =
     let l = c .before .before .before .before .loop in
     omega (arith, s .pre .0 .1 .few, tied-room (s .pre .0 .1) (omega arith) (l .inv) (eq→eqb _ 1 (c .if1 .taken)))
 
-loop-again : tie.Need-loop-again Inv-loop μ-loop
-unfolding marked
-loop-again c = laying-tied (c .before .before .before .before .before .before .pre .0 .1) (omega arith) (c .before .before .before .before .loop .inv) (eq→eqb _ 1 (c .if1 .taken))
-
-loop-again-2 : tie.Need-loop-again-2 Inv-loop μ-loop
-unfolding marked
-loop-again-2 c = laying-head (c .before .before .before .before .before .before .pre .0 .1) (omega arith) (c .before .before .before .before .loop .inv) (ne→neqb _ 1 (c .if1 .left))
-
 pub lay-spec : {M : Type 1} → statement M
+unfolding marked
 lay-spec =
     tie.close
     (tie.spec
@@ -47,7 +35,8 @@ lay-spec =
     (λ c. omega arith)
     (λ c. omega arith)
     (λ c. omega arith)
-    loop-holds
+    (λ c. let s = c .before in
+    laying-start (s .pre .0 .1) (s .args .list .now) (s .args .into .now) (s .args .start .now) (s .pre .0 .0) (s .pre .0 .2) (s .pre .1))
     (λ c. omega arith)
     (λ c. omega arith)
     (λ c. omega arith)
@@ -57,9 +46,9 @@ lay-spec =
     (λ c. room c)
     (λ c. omega (arith, room c))
     (λ c. omega arith)
-    loop-again
+    (λ c. laying-tied (c .before .before .before .before .before .before .pre .0 .1) (omega arith) (c .before .before .before .before .loop .inv) (eq→eqb _ 1 (c .if1 .taken)))
     (λ c. omega arith)
     (λ c. omega arith)
     (λ c. omega arith)
-    loop-again-2
+    (λ c. laying-head (c .before .before .before .before .before .before .pre .0 .1) (omega arith) (c .before .before .before .before .loop .inv) (ne→neqb _ 1 (c .if1 .left)))
     (λ c. laying-end (c .before .before .before .pre .0 .1) (c .before .before .before .args .list .now) _ (omega arith) (c .before .loop .inv)))

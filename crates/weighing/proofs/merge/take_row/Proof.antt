@@ -7,41 +7,18 @@ use native.Mathlib.Omega.{arith}
 use borrow.Author.Needs.{needs}
 use Rattle.links.specs.Table.{lowered}
 use Rattle.weighing.specs.Lists.{listed}
-use Rattle.weighing.specs.Merge.{RowTaken}
+use Rattle.weighing.specs.Merge.{butFor, RowTaken}
 use Rattle.weighing.proofs.Rows.{row-start, put, skip, row-turn}
 use Rattle.weighing.proofs.merge.take_row.Statement.{statement}
 use Rattle.weighing.proofs.merge.take_row.Tie as tie
 
-abbrev Inv-loop : tie.InvT-loop
-Inv-loop table₀ list m a b i₀ table i = (i ≤ m) × RowTaken table₀ table a b (listed list i)
-
-abbrev μ-loop : tie.MeasureT-loop
-μ-loop table₀ list m a b i₀ table i = m - i
-
-loop-again : tie.Need-loop-again Inv-loop μ-loop
-unfolding lowered
-loop-again c =
-    let at = c .before .before .before .before in
-    let pre = at .before .pre in (
-      omega arith,
-      row-turn (pre .4) (omega arith) (pre .1) (pre .2) (pre .3) (at .loop .inv .1) (c .before .bone .ensures .0)
-          (⊎-elim
-          (λ v. put _ (v .0 .taken) (v .2 .ensures .0) (v .2 .ensures .1) (v .5 ∙ v .4 .ensures))
-          (λ v. skip (v .0 .left) (v .1))
-          (c .if1 .came)),
-    )
-
-returns : tie.Need-returns Inv-loop μ-loop
-returns c =
-    let all : c .before .loop .i ≡ c .before .before .args .m = omega arith in
-    rw all at (c .before .loop .inv .1)
-
 pub take-row-spec : {M : Type 1} → statement M
+unfolding lowered
 take-row-spec =
     tie.close
     (tie.spec
-    Inv-loop
-    μ-loop
+    (λ table₀ list m a b i₀ table i. (i ≤ m) × RowTaken table₀ table a b (butFor (listed list i) a))
+    (λ table₀ list m a b i₀ table i. m - i)
     (λ c. (zero-le, row-start _ _ _ _ (c .pre .0)))
     (λ c. omega arith)
     (λ c κs. search needs)
@@ -49,5 +26,14 @@ take-row-spec =
     (λ c κs. search needs)
     (λ c. omega arith)
     (λ c. omega arith)
-    loop-again
-    returns)
+    (λ c. let at = c .before .before .before .before in
+    let pre = at .before .pre in (
+      omega arith,
+      row-turn (pre .4) (omega arith) (pre .1) (pre .2) (pre .3) (at .loop .inv .1) (c .before .bone .ensures .0)
+          (⊎-elim
+          (λ v. put _ (v .0 .taken) (v .2 .ensures .0) (v .2 .ensures .1) (v .5 ∙ v .4 .ensures))
+          (λ v. skip (v .0 .left) (v .1))
+          (c .if1 .came)),
+    ))
+    (λ c. let all : c .before .loop .i ≡ c .before .before .args .m = omega arith in
+    rw all at (c .before .loop .inv .1)))

@@ -6,7 +6,9 @@ use native.Mathlib.Omega.{arith}
 use borrow.Author.Needs.{needs}
 use lib.ListN.{length, length-set}
 use Rattle.weighing.specs.Lists.{listed, marked}
-use Rattle.weighing.proofs.Spreading.{free-start, free-next}
+use Rattle.meaning.specs.Count.{some}
+use Rattle.weighing.proofs.Listing.{noughts}
+use Rattle.weighing.proofs.Moving.{free-next}
 use Rattle.weighing.proofs.moved.free.Statement.{statement}
 use Rattle.weighing.proofs.moved.free.Tie as tie
 
@@ -19,28 +21,21 @@ abbrev μ-loop : tie.MeasureT-loop
 array-write-marks : tie.Need-array-write-marks Inv-loop μ-loop
 array-write-marks c = omega (arith, c .before .before .before .before .pre .low (c .before .before .before .loop .i) (c .before .before .loop-test .taken), c .bone .ensures .0)
 
-loop-again : tie.Need-loop-again Inv-loop μ-loop
-loop-again c =
-    let l = c .before .before .before .loop in
-    (omega arith, length-set (l .marks) (c .bone .result) 1 ∙ l .inv .1, free-next _ (l .marks) (l .i) (c .bone .result) (l .inv .1) (array-write-marks c) (c .bone .ensures .0) (l .inv .2))
-
-returns : tie.Need-returns Inv-loop μ-loop
-returns c =
-    let l = c .before .loop in
-    let done : l .i ≡ c .before .before .args .left = omega arith in
-    (l .inv .1, rw done at (l .inv .2))
-
 pub free-spec : {M : Type 1} → statement M
+unfolding marked listed some
 free-spec =
     tie.close
     (tie.spec
     Inv-loop
     μ-loop
-    (λ c. (zero-le, refl, free-start (c .args .order .now) 128))
+    (λ c. (zero-le, refl, λ b. rw (noughts 128 b)))
     (λ c. omega arith)
     (λ c κs. search needs)
     array-write-marks
     (λ c. omega arith)
     (λ c. omega arith)
-    loop-again
-    returns)
+    (λ c. let l = c .before .before .before .loop in
+    (omega arith, length-set (l .marks) (c .bone .result) 1 ∙ l .inv .1, free-next (c .before .before .before .before .args .order .now) (l .marks) (l .i) (c .bone .result) (l .inv .1) (array-write-marks c) (c .bone .ensures .0) (l .inv .2)))
+    (λ c. let l = c .before .loop in
+    let done : l .i ≡ c .before .before .args .left = omega arith in
+    (l .inv .1, rw done at (l .inv .2))))

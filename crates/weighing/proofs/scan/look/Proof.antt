@@ -8,7 +8,6 @@ use native.Mathlib.Omega.{arith}
 use borrow.Author.Needs.{needs}
 use lib.ListN.{getD}
 use Rattle.links.specs.Table.{held}
-use Rattle.weighing.proofs.Scanning.{looked}
 use Rattle.weighing.proofs.scan.look.Statement.{statement}
 use Rattle.weighing.proofs.scan.look.Tie as tie
 
@@ -21,16 +20,6 @@ tally-is c =
 
 tied-small : (c : tie.After-tally-between) → getD (c .before .before .before .before .args .attach .now) (c .before .before .bone .result) 0 ≤ 2 ^ 40
 tied-small c = rw (c .before .before .bone .ensures .0) (c .before .before .before .before .pre .1 .0)
-
-returns : tie.Need-returns
-returns c =
-    let t = c .before .before .before in
-    looked (t .before .before .bone .ensures .0) (tally-is t) (t .tally-between .ensures .1) (inl (refl, refl, c .if1 .taken))
-
-returns-2 : tie.Need-returns-2
-returns-2 c =
-    let t = c .before .before .before in
-    looked (t .before .before .bone .ensures .0) (tally-is t) (t .tally-between .ensures .1) (inr (refl, refl, c .if1 .left))
 
 pub look-spec : {M : Type 1} → statement M
 look-spec =
@@ -45,5 +34,7 @@ look-spec =
     (λ c. search needs)
     (λ c. search needs)
     (λ c. omega (arith, tied-small (c .before), c .before .tally-between .ensures .1, c .before .before .before .before .before .pre .1 .1))
-    returns
-    returns-2)
+    (λ c. let t = c .before .before .before in
+    rw (← t .before .before .bone .ensures .0, ← tally-is t) (record { stored = refl; small = t .tally-between .ensures .1; sums = refl; best = inl (refl, refl, c .if1 .taken) }))
+    (λ c. let t = c .before .before .before in
+    rw (← t .before .before .bone .ensures .0, ← tally-is t) (record { stored = refl; small = t .tally-between .ensures .1; sums = refl; best = inr (refl, refl, c .if1 .left) })))
