@@ -38,7 +38,7 @@ use Rattle.texts.specs.Writing.{Writes}
 use Rattle.texts.specs.Writers.{resultText, resultRows}
 use Rattle.texts.proofs.ResultRows.{result-rows}
 use Rattle.answering.specs.Prints.{groupedRows, Finishes, Printed, Answers}
-use Rattle.answering.specs.Steps.{Ready, AfterGrouping}
+use Rattle.answering.specs.Steps.{RecordHeld, AfterGrouping}
 use Rattle.answering.proofs.Fitting.{Fits, grouping-fits}
 
 -- a lawful run has at most as many cuts as one fewer than groups
@@ -111,11 +111,11 @@ module _ (n k : ℕ) (links : List Link) (given : List ℕ) where
           (record-fits n w k (left-in space′) (sound .whole) (sound .few) ∙ lawful-entries n w k (cutsOf (left-in space′)) start 0 few-bones (sound .run))
 
   -- by what grouping's rows give
-  ready-by : (j : Judged) → first rows ≡ j → (g : Answer) → g ≡ answered j (groups n w k) true → Ready g (entrySize * 127)
-  unfolding answered Ready Fits
-  ready-by Accepted e g q = subst (λ (x : Answer). Ready x (entrySize * 127)) (sym q) (few-groups e)
+  ready-by : (j : Judged) → first rows ≡ j → (g : Answer) → g ≡ answered j (groups n w k) true → RecordHeld g (entrySize * 127)
+  unfolding answered RecordHeld Fits
+  ready-by Accepted e g q = subst (λ (x : Answer). RecordHeld x (entrySize * 127)) (sym q) (few-groups e)
   ready-by (Refused number place) e g q =
-      subst (λ (x : Answer). Ready x (entrySize * 127)) (sym q) (subst Fits e (grouping-fits n k links given 128 (entrySize * 127)))
+      subst (λ (x : Answer). RecordHeld x (entrySize * 127)) (sym q) (subst Fits e (grouping-fits n k links given 128 (entrySize * 127)))
 
   answers-by : (j : Judged) → first rows ≡ j → (space space′ out out′ : List ℕ) (g : Answer) (r : Written) → Bytes space′ → g ≡ answered j (groups n w k) true → Recorded j n w k given space space′
       → AfterGrouping g n k links space′ out out′ r → Answers j n k links given out out′ r
@@ -141,8 +141,8 @@ module _ (n k : ℕ) (links : List Link) (given : List ℕ) where
     says : g ≡ answered (first rows) (groups n w k) true
     says = grouped .answer ∙ ap (λ (js : List Judged). answered (first js) (groups n w k) true) same
 
-    pub grouping-ready : Ready g (length space)
-    grouping-ready = subst (Ready g) (sym wide) (ready-by (first rows) refl g says)
+    pub grouping-ready : RecordHeld g (length space)
+    grouping-ready = subst (RecordHeld g) (sym wide) (ready-by (first rows) refl g says)
 
     pub grouping-answers : (out out′ : List ℕ) (r : Written) → Bytes space′ → AfterGrouping g n k links space′ out out′ r → Answers (first (groupedRows n k links given)) n k links given out out′ r
     unfolding groupedRows

@@ -2,33 +2,30 @@
 -- Assumes nothing.
 use Prim.Native.Nat.{ℕ, _*_, _/_}
 use mathlib.Core.Path.{_≡_, refl, sym, _∙_, ap, ap₂, subst}
-use mathlib.Core.List.{List, [], _∷_, _++_}
+use mathlib.Core.List.{List, [], _∷_}
 use native.Mathlib.Omega.{arith}
 use lib.Dec.{ltb}
-use lib.ListN.{length, take, drop}
-use lib.Seq.{take-append-seam}
+use lib.ListN.{length, take}
 use Rattle.meaning.specs.declared.Link.{Link}
 use Rattle.meaning.specs.declared.Judged.{Judged}
 use Rattle.meaning.specs.declared.Judged.the-variants.{Accepted, Refused}
 use Rattle.meaning.specs.Judge.{refuse, first}
+use Rattle.meaning.specs.Room.{over, settled}
+use Rattle.meaning.proofs.Room.{take-front}
 use Rattle.links.proofs.LinksRows.{first-accepted, first-refused, accepted-left, accepted-right}
 use Rattle.cutting.specs.Record.{entrySize}
 use Rattle.texts.specs.declared.Reading.{Reading}
 use Rattle.texts.specs.declared.Written.{Written}
 use Rattle.frames.specs.declared.stage.Stage.the-variants.{Opening}
 use Rattle.texts.specs.Lines.{Line, linesOf, lineRows}
-use Rattle.texts.specs.Reader.{linksIn, entriesIn, bonesIn, thresholdIn, readerRows, read, put, Reads}
-use Rattle.texts.specs.Storing.{linksOf, cutsHeld}
+use Rattle.texts.specs.Reader.{linksIn, entriesIn, bonesIn, thresholdIn, readerRows, read, Reads}
+use Rattle.texts.specs.Storing.{linksRead, cutsRead}
 use Rattle.texts.specs.Kinds.{refusalLine}
 use Rattle.texts.proofs.ReadsRows.{accepted-well, entries-whole}
 use Rattle.texts.proofs.ReadsAll.{links-ok, cuts-ok}
 use Rattle.answering.specs.Prints.{groupedRows, programRows, Printed, Answers, Answering}
 use Rattle.answering.specs.Steps.{Held, AfterReading}
 use Rattle.answering.proofs.Fitting.{Fits, reader-fits}
-
--- a run at the front of a room
-front : {A : Type 0} (given room : List A) (count : ℕ) → count ≡ length given → take count (given ++ drop (length given) room) ≡ given
-front given room count e = ap (λ (m : ℕ). take m (given ++ drop (length given) room)) e ∙ take-append-seam given (drop (length given) room)
 
 module _ (input : List ℕ) where
   abbrev ls : List Line
@@ -50,10 +47,10 @@ module _ (input : List ℕ) where
 
     -- by what the reader's rows give
     held-by : (j : Judged) → first rows ≡ j → g ≡ read j ls → Held g (length links) (length space)
-    unfolding read Held Fits linksOf cutsHeld
+    unfolding read Held Fits linksRead cutsRead
     held-by Accepted e q =
         subst (λ (x : Reading). Held x (length links) (length space)) (sym q)
-        (omega (arith, links-ok input links space g (reads .answer) .fits, ap linksOf q), omega (arith, cuts-ok input links space g (reads .answer) .fits, ap cutsHeld q))
+        (omega (arith, links-ok input links space g (reads .answer) .fits, ap linksRead q), omega (arith, cuts-ok input links space g (reads .answer) .fits, ap cutsRead q))
     held-by (Refused number place) e q =
         subst (λ (x : Reading). Held x (length links) (length space)) (sym q) (subst Fits e (reader-fits input 4096 (entrySize * 127)))
 
@@ -63,13 +60,13 @@ module _ (input : List ℕ) where
     pub reading-held : Held g (length links) (length space)
     reading-held = held-by (first rows) refl says
 
-    answers-by : (j : Judged) → first rows ≡ j → g ≡ read j ls → links′ ≡ put j (linksIn ls) links → space′ ≡ put j (entriesIn ls) space → (out out′ : List ℕ) (r : Written)
+    answers-by : (j : Judged) → first rows ≡ j → g ≡ read j ls → links′ ≡ settled j links (over links 0 (linksIn ls)) → space′ ≡ settled j space (over space 0 (entriesIn ls)) → (out out′ : List ℕ) (r : Written)
         → AfterReading g links′ space′ out out′ r → Answering input out out′ r
-    unfolding read put AfterReading programRows Printed cutsHeld
+    unfolding read settled AfterReading programRows Printed cutsRead
     answers-by Accepted e q l s out out′ r a =
-        let links-read : take (length (linksIn ls)) links′ ≡ linksIn ls = ap (take (length (linksIn ls))) l ∙ front (linksIn ls) links (length (linksIn ls)) refl in
+        let links-read : take (length (linksIn ls)) links′ ≡ linksIn ls = ap (take (length (linksIn ls))) l ∙ take-front links (linksIn ls) (length (linksIn ls)) refl in
         let whole : length (entriesIn ls) / entrySize * entrySize ≡ length (entriesIn ls) = omega (arith, entries-whole ls (accepted-well ls Opening 0 (lines e))) in
-        let cuts-read : take (length (entriesIn ls) / entrySize * entrySize) space′ ≡ entriesIn ls = ap (take (length (entriesIn ls) / entrySize * entrySize)) s ∙ front (entriesIn ls) space (length (entriesIn ls) / entrySize * entrySize) whole in
+        let cuts-read : take (length (entriesIn ls) / entrySize * entrySize) space′ ≡ entriesIn ls = ap (take (length (entriesIn ls) / entrySize * entrySize)) s ∙ take-front space (entriesIn ls) (length (entriesIn ls) / entrySize * entrySize) whole in
         subst (λ (j : Judged). Answers j (bonesIn ls) (thresholdIn ls) (linksIn ls) (entriesIn ls) out out′ r) (sym (first-accepted rows others e))
         (subst (λ (x : List Link). Answers (first (groupedRows (bonesIn ls) (thresholdIn ls) x (entriesIn ls))) (bonesIn ls) (thresholdIn ls) x (entriesIn ls) out out′ r) links-read
         (subst (λ (y : List ℕ). Answers (first (groupedRows (bonesIn ls) (thresholdIn ls) (take (length (linksIn ls)) links′) y)) (bonesIn ls) (thresholdIn ls) (take (length (linksIn ls)) links′) y out out′ r) cuts-read
@@ -85,5 +82,5 @@ module _ (input : List ℕ) where
     pub reading-answers : (out out′ : List ℕ) (r : Written) → AfterReading g links′ space′ out out′ r → Answering input out out′ r
     reading-answers =
         answers-by (first rows) refl says
-        (reads .links-left ∙ ap (λ (js : List Judged). put (first js) (linksIn ls) links) same)
-        (reads .record-left ∙ ap (λ (js : List Judged). put (first js) (entriesIn ls) space) same)
+        (reads .links-left ∙ ap (λ (js : List Judged). settled (first js) links (over links 0 (linksIn ls))) same)
+        (reads .record-left ∙ ap (λ (js : List Judged). settled (first js) space (over space 0 (entriesIn ls))) same)

@@ -6,29 +6,30 @@ use mathlib.Core.Bool.{Bool, true, false, cond}
 use mathlib.Core.List.{List, [], _∷_}
 use native.Mathlib.Omega.{arith}
 use lib.Dec.{ltb}
-use lib.ListN.{length, take, drop}
-use lib.Seq.{take-append-seam}
+use lib.ListN.{length, take}
 use borrow.Author.Tests.{le-ltb, ne-eqb}
 use Rattle.meaning.specs.declared.Link.{Link}
 use Rattle.meaning.specs.declared.Judged.{Judged}
 use Rattle.meaning.specs.declared.Judged.the-variants.{Accepted, Refused}
 use Rattle.meaning.specs.Judge.{refuse, first}
+use Rattle.meaning.specs.Room.{over, settled}
+use Rattle.meaning.proofs.Room.{take-front}
 use Rattle.meaning.specs.Tally.{Tally, pairTally}
 use Rattle.meaning.specs.Firm.{label}
 use Rattle.links.specs.Links.{countRows, linksRows, tableRows}
 use Rattle.links.proofs.LinksRows.{Propers, first-accepted, links-proper, accepted-left, table-counted, table-proper}
 use Rattle.links.specs.Records.{sameLabel, keptLinks}
-use Rattle.cutting.specs.Names.{settled, names}
+use Rattle.cutting.specs.Names.{names}
 use Rattle.cutting.specs.RecordRows.{recordRow}
 use Rattle.cutting.specs.declared.Thinned.{Thinned}
 use Rattle.cutting.specs.Rows.{thinningRows}
-use Rattle.cutting.specs.Calls.{over, kept, keeping, ThinningRecords}
+use Rattle.cutting.specs.Calls.{kept, keeping, ThinningRecords}
 use Rattle.cutting.proofs.Keeping.{kept-most}
 use Rattle.texts.specs.declared.Written.{Written}
 use Rattle.texts.specs.Writing.{Writes}
 use Rattle.texts.specs.Inputs.{inputText, inputRows}
 use Rattle.texts.proofs.ResultRows.{one-row}
-use Rattle.answering.specs.Thins.{thinnedRows, thinnedText, thinPrinted, ThinAnswers}
+use Rattle.answering.specs.ThinPrints.{thinnedRows, thinnedText, thinPrinted, ThinAnswers}
 use Rattle.answering.specs.ThinSteps.{KeptHeld, AfterThinning}
 use Rattle.answering.proofs.Fitting.{Fits, thinning-fits}
 
@@ -105,11 +106,11 @@ module _ (n k : ℕ) (links : List Link) where
   held-by Accepted e g q = subst (λ (x : Thinned). KeptHeld x 4096) (sym q) (few-kept e)
   held-by (Refused number place) e g q = subst (λ (x : Thinned). KeptHeld x 4096) (sym q) (subst Fits e (thinning-fits n k links 4096))
 
-  answers-by : (j : Judged) → first rows ≡ j → (space space′ : List Link) (out out′ : List ℕ) (g : Thinned) (r : Written) → g ≡ keeping j (length stay) → space′ ≡ settled j space (over stay space)
+  answers-by : (j : Judged) → first rows ≡ j → (space space′ : List Link) (out out′ : List ℕ) (g : Thinned) (r : Written) → g ≡ keeping j (length stay) → space′ ≡ settled j space (over space 0 stay)
       → AfterThinning g n k space′ out out′ r → ThinAnswers j n k links out out′ r
-  unfolding keeping settled over AfterThinning thinPrinted thinnedText
+  unfolding keeping settled AfterThinning thinPrinted thinnedText
   answers-by Accepted e space space′ out out′ g r q s a =
-      let front : take (length stay) space′ ≡ stay = ap (take (length stay)) s ∙ take-append-seam stay (drop (length stay) space) in
+      let front : take (length stay) space′ ≡ stay = ap (take (length stay)) s ∙ take-front space stay (length stay) refl in
       subst (λ (j : Judged). Writes j (inputText n k stay []) out out′ r) (only-room e (length out))
       (subst (λ (ls : List Link). Writes (first (inputRows n k ls [] (length out))) (inputText n k ls []) out out′ r) front
       (subst (λ (x : Thinned). AfterThinning x n k space′ out out′ r) q a))
@@ -128,4 +129,4 @@ module _ (n k : ℕ) (links : List Link) where
     pub thinning-answers : (out out′ : List ℕ) (r : Written) → AfterThinning g n k space′ out out′ r → ThinAnswers (first (thinnedRows n k links)) n k links out out′ r
     unfolding thinnedRows
     thinning-answers out out′ r a =
-        answers-by (first rows) refl space space′ out out′ g r says (thins .links-left ∙ ap (λ (js : List Judged). settled (first js) space (over stay space)) same) a
+        answers-by (first rows) refl space space′ out out′ g r says (thins .links-left ∙ ap (λ (js : List Judged). settled (first js) space (over space 0 stay)) same) a

@@ -38,7 +38,7 @@ use denote.Triple.Spec.{tripleOf}
 use denote.Triple.Clauses.{Clauses, Ended, Lasts, atExit, lasts, closing}
 use denote.Triple.Walked.{says}
 use Rattle.texts.specs.declared.Written.{Written}
-use Rattle.texts.proofs.WritesAnswer.{Wn}
+use Rattle.texts.proofs.AnswerRows.{Wn}
 use Rattle.texts.specs.Writing.{Refuses}
 use Rattle.answering.proofs.write_refused as ref
 use Rattle.answering.proofs.write_refused.Symbol.{name as #refuse}

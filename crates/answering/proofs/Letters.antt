@@ -35,7 +35,7 @@ use Rattle.texts.proofs.RoundTripWritten.{Smalls}
 use Rattle.answering.specs.Prints.{groupedRows, programRows, Result, Printed, Answering}
 use Rattle.answering.proofs.Fitting.{Fits, both-fit, reader-fits, grouping-fits, thinning-fits}
 use Rattle.answering.proofs.Theorems.{settled-but-cuts, accepted-counts}
-use Rattle.answering.specs.Thins.{thinnedRows, thinRows, thinnedText, thinPrinted}
+use Rattle.answering.specs.ThinPrints.{thinnedRows, thinRows, thinnedText, thinPrinted}
 use Rattle.answering.proofs.AfterThin.{few-kept}
 use Rattle.answering.proofs.ThinTheorems.{thinned, small}
 

@@ -4,9 +4,10 @@ pub mod AfterGroup
 pub mod AfterRead
 pub mod AfterReadThin
 pub mod AfterThin
+pub mod Spaces
+pub mod ReadCall
+pub mod Program
 pub mod Calls
-pub mod ReadingRow
-pub mod ThinnedRow
 pub mod Theorems
 pub mod ThinTheorems
 pub mod Letters

@@ -10,12 +10,13 @@ use mathlib.Core.Logic.{_↔_, _⊎_}
 use mathlib.Core.Bool.{Bool, true}
 use mathlib.Core.List.{List, [], _∷_, _++_}
 use lib.Dec.{T}
-use lib.ListN.{length, take, drop}
+use lib.ListN.{length, take}
 use Rattle.meaning.specs.declared.Link.{Link}
 use Rattle.meaning.specs.declared.Judged.{Judged}
 use Rattle.meaning.specs.declared.Judged.the-variants.{Accepted, Refused}
 use Rattle.meaning.specs.Bytes.{Bytes}
 use Rattle.meaning.specs.Judge.{first}
+use Rattle.meaning.specs.Room.{over}
 use Rattle.meaning.specs.Count.{Bones}
 use Rattle.meaning.specs.Tally.{pairTally, weight}
 use Rattle.meaning.specs.Firm.{firm, group, label, groups}
@@ -27,7 +28,7 @@ use Rattle.cutting.specs.declared.Answer.the-variants.{Gave, Refused as Refused
 use Rattle.cutting.specs.declared.Thinned.{Thinned}
 use Rattle.cutting.specs.declared.Thinned.the-variants.{Refused as Refused·thinned}
 use Rattle.cutting.specs.Record.{entrySize, cutsOf}
-use Rattle.cutting.specs.Names.{written}
+use Rattle.cutting.specs.Names.{names}
 use Rattle.cutting.specs.Rows.{checkingRows, groupingRows}
 use Rattle.cutting.specs.Runs.{Continued}
 use Rattle.cutting.specs.Calls.{kept, Checking, Grouping, Thins}
@@ -37,7 +38,7 @@ use Rattle.cutting.proofs.Demands as Demands
 use Rattle.texts.specs.declared.Reading.{Reading}
 use Rattle.texts.specs.declared.Reading.the-variants.{Got, Refused as Refused·reading}
 use Rattle.texts.specs.declared.Written.{Written}
-use Rattle.texts.specs.declared.Written.the-variants.{Bytes as Wrote, Refused as Refused·written}
+use Rattle.texts.specs.declared.Written.the-variants.{Wrote, Refused as Refused·written}
 use Rattle.texts.specs.Lines.{linesOf}
 use Rattle.texts.specs.Kinds.{headLine, cutLines, labelLines, closeLine, refusalLine}
 use Rattle.texts.specs.Reader.{readerRows, Reads}
@@ -47,7 +48,7 @@ use Rattle.texts.specs.Writers.{unnoted}
 use Rattle.texts.proofs.RoundTripWritten.{Smalls}
 use Rattle.texts.proofs.Texts as Texts
 use Rattle.answering.specs.Prints.{programRows, Result, Answering}
-use Rattle.answering.specs.Thins.{thinPrinted}
+use Rattle.answering.specs.ThinPrints.{thinPrinted}
 use Rattle.answering.proofs.Theorems as Programs
 use Rattle.answering.proofs.Refusing as Refusing
 
@@ -97,7 +98,7 @@ pub written-then-read : (n k : ℕ) (links : List Link) (bytes room room′ : Li
     → Writes (first (inputRows n k links bytes (length room))) (inputText n k links bytes) room room′ (Wrote count)
     → (linkSpace linkSpace′ : List Link) (space space′ : List ℕ) (r : Reading) → length links ≤ length linkSpace → length bytes ≤ length space
     → Reads (take count room′) linkSpace linkSpace′ space space′ r
-    → (r ≡ Got n k (length links) (length bytes / entrySize)) × (linkSpace′ ≡ links ++ drop (length links) linkSpace) × (space′ ≡ bytes ++ drop (length bytes) space)
+    → (r ≡ Got n k (length links) (length bytes / entrySize)) × (linkSpace′ ≡ over linkSpace 0 links) × (space′ ≡ over space 0 bytes)
 written-then-read = Texts.written-then-read
 
 -- a text without notes whose contents the writer accepts, read and written again, is the same text
@@ -105,7 +106,7 @@ pub read-then-written : (text : List ℕ) (linkSpace linkSpace′ : List Link) (
     → (room room′ : List ℕ) (r : Written)
     → first (inputRows n k (take l linkSpace′) (take (entrySize * c) space′) (length room)) ≡ Accepted
     → Writes (first (inputRows n k (take l linkSpace′) (take (entrySize * c) space′) (length room))) (inputText n k (take l linkSpace′) (take (entrySize * c) space′)) room room′ r
-    → (r ≡ Wrote (length text)) × (room′ ≡ text ++ drop (length text) room)
+    → (r ≡ Wrote (length text)) × (room′ ≡ over room 0 text)
 read-then-written = Texts.read-then-written
 
 -- ---- 3. Any lawful run of cuts, none, some or all, whoever made them, in any order: it is kept, continued and ends at those labels.
@@ -114,7 +115,7 @@ module _ (n k : ℕ) (good : Bool) (links : List Link) (judged : first (tableRow
   -- a record is sound where it is whole entries, n − 1 at most, that are a lawful run
   pub kept-and-continued : (bytes labels labels′ space space′ : List ℕ) (r : Answer) → n ≤ length labels → entrySize * (n - 1) ≤ length space → Sound n (pairTally links) k bytes
       → Grouping n k good links bytes labels labels′ space space′ r
-      → (r ≡ Gave (groups n (pairTally links) k) true) × (labels′ ≡ written n (label n (pairTally links) k) labels) × Continued n (pairTally links) k bytes space space′
+      → (r ≡ Gave (groups n (pairTally links) k) true) × (labels′ ≡ over labels 0 (names n (label n (pairTally links) k))) × Continued n (pairTally links) k bytes space space′
   kept-and-continued = Demands.kept-and-continued n k good links judged
 
   -- checking refuses a record exactly if its run is not lawful, at the first entry that is not
@@ -130,7 +131,7 @@ module _ (n k : ℕ) (good : Bool) (links : List Link) (judged : first (tableRow
     own = Demands.own n k good links judged bytes space space′ c
 
     pub own-checked : (labels labels′ : List ℕ) (r : Answer) → n ≤ length labels → Checking n k good links own labels labels′ r
-        → (r ≡ Gave (groups n (pairTally links) k) true) × (labels′ ≡ written n (label n (pairTally links) k) labels)
+        → (r ≡ Gave (groups n (pairTally links) k) true) × (labels′ ≡ over labels 0 (names n (label n (pairTally links) k)))
     own-checked = Demands.own-checked n k good links judged bytes space space′ c
 
     pub own-stays : (labels labels′ room room′ : List ℕ) (r : Answer) → n ≤ length labels → entrySize * (n - 1) ≤ length room

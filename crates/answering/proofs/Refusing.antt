@@ -10,6 +10,7 @@ use Rattle.meaning.specs.declared.Link.{Link}
 use Rattle.meaning.specs.declared.Judged.{Judged}
 use Rattle.meaning.specs.declared.Judged.the-variants.{Accepted, Refused}
 use Rattle.meaning.specs.Judge.{first}
+use Rattle.meaning.specs.Room.{over, settled}
 use Rattle.meaning.specs.Tally.{Tally, pairTally, weight}
 use Rattle.meaning.specs.Firm.{label, groups}
 use Rattle.meaning.specs.Heap.{start, pile, piles, Cut, LawfulRun, left, finished}
@@ -18,21 +19,21 @@ use Rattle.cutting.specs.declared.Answer.{Answer}
 use Rattle.cutting.specs.declared.Answer.the-variants.{Refused as Refused·answer}
 use Rattle.cutting.specs.declared.Thinned.{Thinned}
 use Rattle.cutting.specs.declared.Thinned.the-variants.{Refused as Refused·thinned}
-use Rattle.cutting.specs.Names.{settled, written}
+use Rattle.cutting.specs.Names.{names}
 use Rattle.cutting.specs.Rows.{checkingRows, groupingRows}
 use Rattle.cutting.specs.Runs.{answered, namesLeft, Recorded}
-use Rattle.cutting.specs.Calls.{over, kept, keeping, Checking, Grouping, Thins}
+use Rattle.cutting.specs.Calls.{kept, keeping, Checking, Grouping, Thins}
 use Rattle.texts.specs.declared.Reading.{Reading}
 use Rattle.texts.specs.declared.Reading.the-variants.{Refused as Refused·reading}
 use Rattle.texts.specs.declared.Written.{Written}
 use Rattle.texts.specs.declared.Written.the-variants.{Refused as Refused·written}
 use Rattle.texts.specs.Lines.{linesOf}
 use Rattle.texts.specs.Kinds.{refusalLine}
-use Rattle.texts.specs.Reader.{linksIn, entriesIn, bonesIn, thresholdIn, readerRows, read, put, Reads}
+use Rattle.texts.specs.Reader.{linksIn, entriesIn, bonesIn, thresholdIn, readerRows, read, Reads}
 use Rattle.texts.specs.Writing.{wrote, Writes}
 use Rattle.texts.specs.Inputs.{inputText}
 use Rattle.answering.specs.Prints.{programRows, Printed, Answering}
-use Rattle.answering.specs.Thins.{thinnedText, thinPrinted}
+use Rattle.answering.specs.ThinPrints.{thinnedText, thinPrinted}
 
 -- rows either accept or refuse, with a number and a place
 pub accepts-or-refuses : (rows : List Judged) → (first rows ≡ Accepted) ⊎ ((number : ℕ) × (place : ℕ) × (first rows ≡ Refused number place))
@@ -48,7 +49,7 @@ module _ (n k : ℕ) (good : Bool) (links : List Link) (bytes labels labels′ :
   unfolding answered settled
   checking-refused g e = (
     g .answer ∙ ap (λ (j : Judged). answered j (piles n (namesLeft n bytes)) (finished n (pairTally links) k (namesLeft n bytes))) e,
-    g .names-left ∙ ap (λ (j : Judged). settled j labels (written n (namesLeft n bytes) labels)) e,
+    g .names-left ∙ ap (λ (j : Judged). settled j labels (over labels 0 (names n (namesLeft n bytes)))) e,
   )
 
   pub grouping-refused : (space space′ : List ℕ) → Grouping n k good links bytes labels labels′ space space′ r → first (groupingRows n k good links bytes (length labels) (length space)) ≡ Refused number place
@@ -56,7 +57,7 @@ module _ (n k : ℕ) (good : Bool) (links : List Link) (bytes labels labels′ :
   unfolding answered settled Recorded
   grouping-refused space space′ g e = (
     g .answer ∙ ap (λ (j : Judged). answered j (groups n (pairTally links) k) true) e,
-    g .labels-left ∙ ap (λ (j : Judged). settled j labels (written n (label n (pairTally links) k) labels)) e,
+    g .labels-left ∙ ap (λ (j : Judged). settled j labels (over labels 0 (names n (label n (pairTally links) k)))) e,
     subst (λ (j : Judged). Recorded j n (pairTally links) k bytes space space′) e (g .record-left),
   )
 
@@ -65,24 +66,24 @@ pub thinning-refused : {A : Type 0} (form : List Link → List A) (rows : List J
 unfolding keeping settled
 thinning-refused form rows n w k links space space′ r number place g e = (
   g .answer ∙ ap (λ (j : Judged). keeping j (length (kept n w k links))) e,
-  g .links-left ∙ ap (λ (j : Judged). settled j space (over (form (kept n w k links)) space)) e,
+  g .links-left ∙ ap (λ (j : Judged). settled j space (over space 0 (form (kept n w k links)))) e,
 )
 
 pub reading-refused : (text : List ℕ) (links links′ : List Link) (space space′ : List ℕ) (r : Reading) (number place : ℕ)
     → Reads text links links′ space space′ r → first (readerRows text (length links) (length space)) ≡ Refused number place
     → (r ≡ Refused·reading number place) × (links′ ≡ links) × (space′ ≡ space)
-unfolding read put
+unfolding read settled
 reading-refused text links links′ space space′ r number place g e = (
   g .answer ∙ ap (λ (j : Judged). read j (linesOf text)) e,
-  g .links-left ∙ ap (λ (j : Judged). put j (linksIn (linesOf text)) links) e,
-  g .record-left ∙ ap (λ (j : Judged). put j (entriesIn (linesOf text)) space) e,
+  g .links-left ∙ ap (λ (j : Judged). settled j links (over links 0 (linksIn (linesOf text)))) e,
+  g .record-left ∙ ap (λ (j : Judged). settled j space (over space 0 (entriesIn (linesOf text)))) e,
 )
 
 pub writing-refused : (rows : Judged) (text room room′ : List ℕ) (r : Written) (number place : ℕ) → Writes rows text room room′ r → rows ≡ Refused number place
     → (r ≡ Refused·written number place) × (room′ ≡ room)
-unfolding wrote put
+unfolding wrote settled
 writing-refused rows text room room′ r number place g e =
-    (g .answer ∙ ap (λ (j : Judged). wrote j (length text)) e, g .text-left ∙ ap (λ (j : Judged). put j text room) e)
+    (g .answer ∙ ap (λ (j : Judged). wrote j (length text)) e, g .text-left ∙ ap (λ (j : Judged). settled j room (over room 0 text)) e)
 
 -- a cut of a lawful run states what its side weighs in the pile as it stands behind the cuts before it, and that is below k
 module _ (n : ℕ) (w : Tally) (k : ℕ) where

@@ -7,12 +7,13 @@ use mathlib.Core.List.{List, _++_}
 use native.Mathlib.Nat.{le-refl}
 use native.Mathlib.Omega.{arith}
 use lib.Dec.{eqb, ltb}
-use lib.ListN.{length, drop}
+use lib.ListN.{length}
 use borrow.Author.Tests.{le-ltb}
 use Rattle.meaning.specs.declared.Link.{Link}
 use Rattle.meaning.specs.declared.Judged.{Judged}
 use Rattle.meaning.specs.declared.Judged.the-variants.{Accepted, Refused}
 use Rattle.meaning.specs.Judge.{refuse, first}
+use Rattle.meaning.specs.Room.{over, settled}
 use Rattle.meaning.specs.Tally.{pairTally}
 use Rattle.meaning.specs.Firm.{label, groups}
 use Rattle.meaning.specs.Heap.{Heap, start, left}
@@ -25,15 +26,16 @@ use Rattle.cutting.proofs.Cuts.{length-cuts}
 use Rattle.cutting.proofs.Same.{same-bytes}
 use Rattle.cutting.specs.Rows.{groupingRows}
 use Rattle.texts.specs.Lines.{linesOf}
-use Rattle.texts.specs.Reader.{linksIn, entriesIn, bonesIn, thresholdIn, readerRows, put}
+use Rattle.texts.specs.Reader.{linksIn, entriesIn, bonesIn, thresholdIn, readerRows}
 use Rattle.texts.specs.declared.Written.{Written}
-use Rattle.texts.specs.declared.Written.the-variants.{Bytes, Refused as Refused·written}
+use Rattle.texts.specs.declared.Written.the-variants.{Wrote, Refused as Refused·written}
 use Rattle.texts.specs.Kinds.{headLine, cutLines, labelLine, labelLines, closeLine, refusalLine}
 use Rattle.texts.specs.Writing.{wrote}
 use Rattle.texts.specs.Writers.{resultText}
+use Rattle.texts.specs.Steps.{resultSize}
 use Rattle.texts.proofs.Texts.{result-length}
 use Rattle.texts.proofs.WritesLines.{length-refusal}
-use Rattle.answering.specs.Prints.{groupedRows, programRows, Finishes, Result, Printed, shown, Answering}
+use Rattle.answering.specs.Prints.{groupedRows, programRows, Finishes, Result, Printed, shownCuts, Answering}
 
 -- ---- a result text
 
@@ -67,7 +69,7 @@ module _ (n k : ℕ) (links : List Link) (given : List ℕ) (some-bones : 0 < n)
       (labels-same n (left n start (cutsOf (r .bytes))) (label n (pairTally links) k) labelled)
       ∙ ap (λ (m : ℕ). headLine n k ++ cutLines (many - 1) (r .bytes) ++ labelLines n (label n (pairTally links) k) ++ closeLine m) frames
 
-  result-size : (text : List ℕ) → Result n k links given text → length text ≡ 20 + 47 * (many - 1) + 9 * n
+  result-size : (text : List ℕ) → Result n k links given text → length text ≡ resultSize (many - 1) n
   result-size text r = ap length (r .result) ∙ result-length n k (r .bytes) ∙ omega (arith, cuts-are (r .bytes) (r .finishes))
 
 -- ---- the answer to an input
@@ -87,15 +89,15 @@ module _ (n k : ℕ) (links : List Link) (given : List ℕ) where
   one-size Accepted some t u p q = result-size n k links given (some refl) t p ∙ sym (result-size n k links given (some refl) u q)
   one-size (Refused number place) some t u p q = ap length (p ∙ sym q)
 
-  few-bytes : (j : Judged) → (j ≡ Accepted → (0 < n) × (n ≤ 128)) → (t : List ℕ) → Printed j n k links given t → length t ≤ 7141
+  few-bytes : (j : Judged) → (j ≡ Accepted → (0 < n) × (n ≤ 128)) → (t : List ℕ) → Printed j n k links given t → length t ≤ resultSize 127 128
   unfolding Printed groups
   few-bytes Accepted fits t p =
       omega (arith, result-size n k links given (fits refl .0) t p, count-most n (λ b. eqb (label n (pairTally links) k b) b), fits refl .1)
   few-bytes (Refused number place) fits t p = omega (arith, ap length p, length-refusal number place)
 
   -- and one text, but for which cuts are shown
-  one-shown : (j : Judged) (t u : List ℕ) (p : Printed j n k links given t) (q : Printed j n k links given u) → shown j n k links given t p ≡ shown j n k links given u q → t ≡ u
-  unfolding Printed shown
+  one-shown : (j : Judged) (t u : List ℕ) (p : Printed j n k links given t) (q : Printed j n k links given u) → shownCuts j n k links given t p ≡ shownCuts j n k links given u q → t ≡ u
+  unfolding Printed shownCuts
   one-shown Accepted t u p q e =
       p .result
       ∙ ap (resultText n k) (same-bytes (p .bytes) (q .bytes) (p .finishes .whole) (q .finishes .whole) (λ i. omega (arith, p .finishes .are-bytes i)) (λ i. omega (arith, q .finishes .are-bytes i)) e)
@@ -128,10 +130,10 @@ module _ (input out out₁ out₂ : List ℕ) (r s : Written) (a : Answering inp
 
   same-text : a .text ≡ b .text → out₁ ≡ out₂
   same-text e =
-      a .writes .text-left ∙ ap (λ (t : List ℕ). put (refuse (ltb (length out) (length t)) 20 0) t out) e ∙ sym (b .writes .text-left)
+      a .writes .text-left ∙ ap (λ (t : List ℕ). settled (refuse (ltb (length out) (length t)) 20 0) out (over out 0 t)) e ∙ sym (b .writes .text-left)
 
   -- and one text, but for which cuts are shown
-  pub one-text : shown (first (programRows input)) n k links given (a .text) (a .printed) ≡ shown (first (programRows input)) n k links given (b .text) (b .printed) → out₁ ≡ out₂
+  pub one-text : shownCuts (first (programRows input)) n k links given (a .text) (a .printed) ≡ shownCuts (first (programRows input)) n k links given (b .text) (b .printed) → out₁ ≡ out₂
   one-text e = same-text (one-shown n k links given (first (programRows input)) (a .text) (b .text) (a .printed) (b .printed) e)
 
   -- so one, where the input is refused
@@ -141,27 +143,27 @@ module _ (input out out₁ out₂ : List ℕ) (r s : Written) (a : Answering inp
       same-text (line (a .text) (a .printed) ∙ sym (line (b .text) (b .printed)))
 
 unfoldable pub counted : Written → ℕ
-counted (Bytes count) = count
+counted (Wrote count) = count
 counted (Refused·written number place) = 0
 
--- 7,141 bytes are room enough for every answer: a head, 127 cuts, 128 labels and a close
-module _ (input out out′ : List ℕ) (r : Written) (a : Answering input out out′ r) (wide : 7141 ≤ length out) where
+-- a head, 127 cuts, 128 labels and a close are the longest answer: with room for them, every one is printed
+module _ (input out out′ : List ℕ) (r : Written) (a : Answering input out out′ r) (wide : resultSize 127 128 ≤ length out) where
   text-fits : length (a .text) ≤ length out
   text-fits =
       omega (arith, few-bytes (bonesIn (linesOf input)) (thresholdIn (linesOf input)) (linksIn (linesOf input)) (entriesIn (linesOf input)) (first (programRows input)) (λ e. let c = accepted-counts input e in (c .0, c .1)) (a .text) (a .printed))
 
-  pub room-enough : r ≡ Bytes (length (a .text))
+  pub room-enough : r ≡ Wrote (length (a .text))
   unfolding refuse wrote
   room-enough = a .writes .answer ∙ rw (le-ltb (length out) (length (a .text)) text-fits) refl
 
-  pub text-left : out′ ≡ a .text ++ drop (length (a .text)) out
-  unfolding refuse put
+  pub text-left : out′ ≡ over out 0 (a .text)
+  unfolding refuse settled
   text-left = a .writes .text-left ∙ rw (le-ltb (length out) (length (a .text)) text-fits) refl
 
   -- so many bytes of the space are to be printed
-  pub count-fits : (count : ℕ) → r ≡ Bytes count → count ≤ length out
+  pub count-fits : (count : ℕ) → r ≡ Wrote count → count ≤ length out
   unfolding counted
   count-fits count e =
-      let both : Bytes (length (a .text)) ≡ Bytes count = sym room-enough ∙ e in
+      let both : Wrote (length (a .text)) ≡ Wrote count = sym room-enough ∙ e in
       let same : length (a .text) ≡ count = ap counted both in
       omega (arith, text-fits)

@@ -2,22 +2,24 @@
 --     one-thinned        two answers that meet the promise are equal
 --     writer-accepts     of the input writer's rows only 20 can refuse what thinning kept
 --     thinned-then-read  what is printed where nothing refuses is read back as n, k, the links kept, and no cuts
---     thin-room, thin-count-fits    53,268 bytes are room enough for every answer
+--     thin-room, thin-count-fits    with room for a head, 4,096 links and a close, every answer is printed
 --     thin-left          and so it stands at the front of the space
 -- Assumes nothing.
 use Prim.Native.Nat.{ℕ, _*_, _≤_}
 use mathlib.Core.Path.{_≡_, refl, sym, _∙_, ap, subst}
 use mathlib.Core.Bool.{Bool, true, false, cond, _&&_}
-use mathlib.Core.List.{List, [], _∷_, _++_}
+use mathlib.Core.List.{List, [], _∷_}
 use native.Mathlib.Omega.{arith}
 use lib.Dec.{T, eqb, ltb}
-use lib.ListN.{length, take, drop}
+use lib.ListN.{length, take}
 use borrow.Author.Tests.{le-ltb}
 use Rattle.meaning.specs.declared.Link.{Link}
 use Rattle.meaning.specs.declared.Judged.{Judged}
 use Rattle.meaning.specs.declared.Judged.the-variants.{Accepted, Refused}
 use Rattle.meaning.specs.Bytes.{Bytes}
 use Rattle.meaning.specs.Judge.{refuse, first}
+use Rattle.meaning.specs.Room.{over, settled}
+use Rattle.meaning.proofs.Room.{over-nil}
 use Rattle.meaning.specs.Tally.{pairTally}
 use Rattle.meaning.specs.Firm.{label}
 use Rattle.meaning.proofs.Tests.{left-of, right-of}
@@ -33,18 +35,19 @@ use Rattle.frames.specs.declared.stage.Stage.the-variants.{Opening}
 use Rattle.texts.specs.declared.Reading.{Reading}
 use Rattle.texts.specs.declared.Reading.the-variants.{Got}
 use Rattle.texts.specs.Lines.{Line, linesOf, kind, frame, pair}
-use Rattle.texts.specs.Reader.{linkIn, linksIn, bonesIn, thresholdIn, readerRows, put, Reads}
+use Rattle.texts.specs.Reader.{linkIn, linksIn, bonesIn, thresholdIn, readerRows, Reads}
 use Rattle.texts.specs.Judging.{allWell}
 use Rattle.texts.proofs.ReadsRows.{accepted-well}
 use Rattle.texts.specs.declared.Written.{Written}
-use Rattle.texts.specs.declared.Written.the-variants.{Bytes as Wrote}
+use Rattle.texts.specs.declared.Written.the-variants.{Wrote}
 use Rattle.texts.specs.Writing.{wrote, Writes}
 use Rattle.texts.proofs.WritesLines.{length-refusal}
 use Rattle.texts.specs.Inputs.{inputText, inputRows}
+use Rattle.texts.specs.Steps.{inputSize}
 use Rattle.texts.proofs.RoundTripWritten.{Small, Smalls, bytes-none}
 use Rattle.texts.proofs.RoundTripCalls.{lines-accepted}
 use Rattle.texts.proofs.Texts.{written-then-read, one-writing, input-length}
-use Rattle.answering.specs.Thins.{thinnedRows, thinRows, thinnedText, thinPrinted, ThinsText}
+use Rattle.answering.specs.ThinPrints.{thinnedRows, thinRows, thinnedText, thinPrinted, ThinsText}
 use Rattle.answering.proofs.AfterThin.{kept-holds, few-kept, only-room}
 use Rattle.answering.proofs.Theorems.{counted}
 
@@ -74,7 +77,7 @@ kept-small = kept-holds Smalls (λ l ls s. (s .1, λ ks q. (s .0, q)))
 
 -- ---- what may be printed
 
-few-bytes : (j : Judged) (n k : ℕ) (links : List Link) → (j ≡ Accepted → first (thinningRows n k true links 4096) ≡ Accepted) → length (thinPrinted j n k links) ≤ 53268
+few-bytes : (j : Judged) (n k : ℕ) (links : List Link) → (j ≡ Accepted → first (thinningRows n k true links 4096) ≡ Accepted) → length (thinPrinted j n k links) ≤ inputSize 4096 0
 unfolding thinPrinted thinnedText
 few-bytes Accepted n k links ok = omega (arith, input-length n k (kept n (pairTally links) k links) [], few-kept n k links (ok refl))
 few-bytes (Refused number place) n k links ok = omega (arith, length-refusal number place)
@@ -120,13 +123,14 @@ module _ (input : List ℕ) where
           (subst (λ (j : Judged). Writes (refuse (ltb (length out) (length (thinPrinted j n k links))) 20 0) (thinPrinted j n k links) out out′ (Wrote count)) accepted answer)
 
       pub thinned-then-read : (linkSpace linkSpace′ : List Link) (space space′ : List ℕ) (r : Reading) → length stay ≤ length linkSpace → Reads (take count out′) linkSpace linkSpace′ space space′ r
-          → (r ≡ Got n k (length stay) 0) × (linkSpace′ ≡ stay ++ drop (length stay) linkSpace) × (space′ ≡ space)
+          → (r ≡ Got n k (length stay) 0) × (linkSpace′ ≡ over linkSpace 0 stay) × (space′ ≡ space)
       thinned-then-read linkSpace linkSpace′ space space′ r fits reads =
-          written-then-read n k stay [] out out′ count small bytes-none by-writer linkSpace linkSpace′ space space′ r fits (omega arith) reads
+          let back = written-then-read n k stay [] out out′ count small bytes-none by-writer linkSpace linkSpace′ space space′ r fits (omega arith) reads in
+          (back .0, back .1, back .2 ∙ over-nil space 0)
 
 -- ---- room
 
-module _ (input out out′ : List ℕ) (r : Written) (a : ThinsText input out out′ r) (wide : 53268 ≤ length out) where
+module _ (input out out′ : List ℕ) (r : Written) (a : ThinsText input out out′ r) (wide : inputSize 4096 0 ≤ length out) where
   abbrev text : List ℕ
   text = thinPrinted (first (thinRows input)) (bonesIn (linesOf input)) (thresholdIn (linesOf input)) (linksIn (linesOf input))
 
@@ -137,8 +141,8 @@ module _ (input out out′ : List ℕ) (r : Written) (a : ThinsText input out ou
   unfolding refuse wrote
   thin-room = a .answer ∙ rw (le-ltb (length out) (length text) text-fits) refl
 
-  pub thin-left : out′ ≡ text ++ drop (length text) out
-  unfolding refuse put
+  pub thin-left : out′ ≡ over out 0 text
+  unfolding refuse settled
   thin-left = a .text-left ∙ rw (le-ltb (length out) (length text) text-fits) refl
 
   -- so many bytes of the space are to be printed

@@ -1,5 +1,5 @@
 -- What the promises of the programs cite.
 pub mod Prints
 pub mod Steps
-pub mod Thins
+pub mod ThinPrints
 pub mod ThinSteps

@@ -3,13 +3,13 @@ use Prim.Native.Nat.{ℕ, _*_, _%_}
 use mathlib.Core.Path.{_≡_}
 use mathlib.Core.Bool.{true}
 use mathlib.Core.List.{List, [], _++_}
-use lib.Dec.{T, ltb}
+use lib.Dec.{T}
 use lib.ListN.{length, take}
 use Rattle.meaning.specs.declared.Link.{Link}
 use Rattle.meaning.specs.declared.Judged.{Judged}
 use Rattle.meaning.specs.declared.Judged.the-variants.{Accepted, Refused}
 use Rattle.meaning.specs.Bytes.{Bytes}
-use Rattle.meaning.specs.Judge.{refuse, first}
+use Rattle.meaning.specs.Judge.{first}
 use Rattle.meaning.specs.Tally.{pairTally}
 use Rattle.meaning.specs.Heap.{Cut, start, LawfulRun, left, finished}
 use Rattle.cutting.specs.Record.{entrySize, cutsOf}
@@ -18,7 +18,7 @@ use Rattle.texts.specs.declared.Written.{Written}
 use Rattle.texts.specs.Lines.{linesOf}
 use Rattle.texts.specs.Reader.{linksIn, entriesIn, bonesIn, thresholdIn, readerRows}
 use Rattle.texts.specs.Kinds.{refusalLine}
-use Rattle.texts.specs.Writing.{Writes}
+use Rattle.texts.specs.Writing.{WritesWhole}
 use Rattle.texts.specs.Writers.{resultText}
 
 -- what the program tries: what the reader tries, and on what was read what grouping tries; there is room for 4,096 links, 127 cuts and 128 labels
@@ -50,16 +50,16 @@ Printed Accepted n k links given text = Result n k links given text
 Printed (Refused number place) n k links given text = text ≡ refusalLine number place
 
 -- the cuts that are printed; none with a refusal
-unfoldable pub shown : (j : Judged) (n k : ℕ) (links : List Link) (given text : List ℕ) → Printed j n k links given text → List Cut
+unfoldable pub shownCuts : (j : Judged) (n k : ℕ) (links : List Link) (given text : List ℕ) → Printed j n k links given text → List Cut
 unfolding Printed
-shown Accepted n k links given text p = cutsOf (p .bytes)
-shown (Refused number place) n k links given text p = []
+shownCuts Accepted n k links given text p = cutsOf (p .bytes)
+shownCuts (Refused number place) n k links given text p = []
 
 -- the text at the front of the space lent for it, the rest as it was, and its length; or refusal 20, and nothing written
 pub record Answers (rows : Judged) (n k : ℕ) (links : List Link) (given out out′ : List ℕ) (r : Written) : Type 0 where
   pub text : List ℕ
   pub printed : Printed rows n k links given text
-  pub writes : Writes (refuse (ltb (length out) (length text)) 20 0) text out out′ r
+  pub writes : WritesWhole text out out′ r
 
 -- the program's answer to an input text
 abbrev pub Answering : List ℕ → List ℕ → List ℕ → Written → Type 0

@@ -1,7 +1,7 @@
 -- What the program's steps promise each other: what comes after reading, and what comes after grouping.
 use Prim.Native.Nat.{ℕ, _*_, _-_, _≤_, _<_}
 use mathlib.Core.List.{List}
-use lib.ListN.{length, take}
+use lib.ListN.{take}
 use Rattle.meaning.specs.declared.Link.{Link}
 use Rattle.meaning.specs.Judge.{first}
 use Rattle.cutting.specs.declared.Answer.{Answer}
@@ -10,8 +10,8 @@ use Rattle.cutting.specs.Record.{entrySize}
 use Rattle.texts.specs.declared.Reading.{Reading}
 use Rattle.texts.specs.declared.Reading.the-variants.{Got, Refused as Refused·reading}
 use Rattle.texts.specs.declared.Written.{Written}
-use Rattle.texts.specs.Writing.{Writes, Refuses}
-use Rattle.texts.specs.Writers.{resultText, resultRows}
+use Rattle.texts.specs.Writing.{Refuses}
+use Rattle.texts.specs.Writers.{WritingResult}
 use Rattle.answering.specs.Prints.{groupedRows, Answers}
 
 -- a refusal's number and place fit its frame
@@ -29,11 +29,11 @@ AfterReading (Got n k count cuts) links space out out′ r =
 AfterReading (Refused·reading number place) links space out out′ r = Refuses number place out out′ r
 
 -- after grouping into so much record room: the record of one cut fewer than groups fits it; and then its result is written, or the refusal
-unfoldable pub Ready : Answer → ℕ → Type 0
-Ready (Gave count done) room = (count - 1) * entrySize ≤ room
-Ready (Refused·answer number place) room = Framed number place
+unfoldable pub RecordHeld : Answer → ℕ → Type 0
+RecordHeld (Gave count done) room = (count - 1) * entrySize ≤ room
+RecordHeld (Refused·answer number place) room = Framed number place
 
 unfoldable pub AfterGrouping : Answer → ℕ → ℕ → List Link → List ℕ → List ℕ → List ℕ → Written → Type 0
 AfterGrouping (Gave count done) n k links space out out′ r =
-    Writes (first (resultRows n k links (take ((count - 1) * entrySize) space) (length out))) (resultText n k (take ((count - 1) * entrySize) space)) out out′ r
+    WritingResult n k links (take ((count - 1) * entrySize) space) out out′ r
 AfterGrouping (Refused·answer number place) n k links space out out′ r = Refuses number place out out′ r

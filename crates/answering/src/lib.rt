@@ -18,7 +18,7 @@ ghost use lib.ListN.{length};
 ghost use Rattle.meaning.specs.Judge.{first};
 ghost use Rattle.texts.specs.Writing.{Refuses};
 ghost use Rattle.answering.specs.Prints.{groupedRows, Answers, Answering};
-ghost use Rattle.answering.specs.Steps.{Framed, Held, AfterReading, Ready, AfterGrouping};
+ghost use Rattle.answering.specs.Steps.{Framed, Held, AfterReading, RecordHeld, AfterGrouping};
 
 // The frame of a refusal, alone. The numbers and places that the reader, grouping and thinning refuse with fit it.
 pub(crate) fn write_refused(number: u32, place: u32, out: &mut [u8]) -> Written
@@ -37,7 +37,7 @@ fn after_grouping(
     space: &[u8],
     out: &mut [u8],
 ) -> Written
-    requires { ⌜ Ready grouped (length (now space)) ⌝ }
+    requires { ⌜ RecordHeld grouped (length (now space)) ⌝ }
     ensures { λ r. ⌜ AfterGrouping grouped n k (now (links .entry)) (now (space .entry)) (now (out .entry)) (now (out .exit)) r ⌝ }
 {
     match grouped {

@@ -14,8 +14,8 @@ use texts::input::write_input;
 use texts::reader::read;
 ghost use lib.ListN.{length};
 ghost use Rattle.meaning.specs.Judge.{first};
-ghost use Rattle.answering.specs.Thins.{thinnedRows, ThinAnswers, ThinsText};
-ghost use Rattle.answering.specs.ThinSteps.{LinksHeld, AfterReading, KeptHeld, AfterThinning};
+ghost use Rattle.answering.specs.ThinPrints.{thinnedRows, ThinAnswers, ThinsText};
+ghost use Rattle.answering.specs.ThinSteps.{LinksHeld, AfterThinReading, KeptHeld, AfterThinning};
 
 // The longest text that is printed: head, 4,096 links, close.
 pub const LONGEST: usize = HEAD_LINE + 4096 * LINK_LINE + CLOSE_LINE;
@@ -52,7 +52,7 @@ fn thin_read(n: u64, k: u64, links: &[Link], out: &mut [u8]) -> Written
 // After reading: its refusal, or the thinned links of what was read. Cuts that were given are not looked at.
 fn after_reading(reading: Reading, links: &[Link], out: &mut [u8]) -> Written
     requires { ⌜ LinksHeld reading (length (now links)) ⌝ }
-    ensures { λ r. ⌜ AfterReading reading (now (links .entry)) (now (out .entry)) (now (out .exit)) r ⌝ }
+    ensures { λ r. ⌜ AfterThinReading reading (now (links .entry)) (now (out .entry)) (now (out .exit)) r ⌝ }
 {
     match reading {
         Reading::Refused { number, place } => write_refused(number, place, out),

@@ -27,7 +27,8 @@ use denote.Exit.{yes}
 use denote.Triple.Statement.{Triple}
 use Rattle.meaning.specs.declared.Link.{Link}
 use Rattle.links.proofs.RecordsLink.{R}
-use Rattle.calls.proofs.Telling.{Call, Callee, Teller, Caller, Row, spelled, asks, tells}
+use Rattle.texts.proofs.AnswerRows.{Row}
+use Rattle.calls.proofs.Telling.{Call, Callee, Teller, Caller, spelled, asks, tells}
 
 -- what is promised of n, k, the links, the record, the room at entry and at exit, and the answer
 abbrev pub Says : RattleType → Type 1

@@ -18,9 +18,9 @@ use Rattle.cutting.specs.Calls.{Checking, Grouping, Thins}
 use Rattle.cutting.proofs.Unique.{SameSpace, checking-unique, grouping-unique, thinning-unique}
 use Rattle.texts.proofs.Texts.{one-reading, one-writing}
 use Rattle.calls.specs.declared.told.Told.{Told}
-use Rattle.calls.specs.declared.told.Count.{Count}
+use Rattle.calls.specs.declared.told.ToldCount.{ToldCount}
 use Rattle.calls.specs.declared.told.Input.{Input}
-use Rattle.calls.specs.Told.{told, kept, wrote, got, Telling}
+use Rattle.calls.specs.Told.{told, toldThinned, toldWritten, toldReading, Telling}
 
 -- one answer is told in one way
 telling-same : {A B : Type 0} {tells : A → B} {P Q : A → Type 0} (r s : B) (x : Telling tells P r) (y : Telling tells Q s) → x .answer ≡ y .answer → r ≡ s
@@ -39,20 +39,20 @@ module _ (n k : ℕ) (good : Bool) (links : List Link) (bytes labels : List ℕ)
       (telling-same r s x y (one .0), one .1, one .2)
 
 -- thinning, of bytes and of records: in whatever form the links are lent
-pub told-thinning-unique : {A : Type 0} (form : List Link → List A) (rows : List Judged) (n : ℕ) (w : Tally) (k : ℕ) (links : List Link) (space a b : List A) (r s : Count)
-    → Telling kept (Thins form rows n w k links space a) r → Telling kept (Thins form rows n w k links space b) s → (r ≡ s) × (a ≡ b)
+pub told-thinning-unique : {A : Type 0} (form : List Link → List A) (rows : List Judged) (n : ℕ) (w : Tally) (k : ℕ) (links : List Link) (space a b : List A) (r s : ToldCount)
+    → Telling toldThinned (Thins form rows n w k links space a) r → Telling toldThinned (Thins form rows n w k links space b) s → (r ≡ s) × (a ≡ b)
 told-thinning-unique form rows n w k links space a b r s x y =
     let one = thinning-unique form rows n w k links space a b (x .answer) (y .answer) (x .kept-by) (y .kept-by) in
     (telling-same r s x y (one .0), one .1)
 
-pub told-reading-unique : (text : List ℕ) (links a b : List Link) (space c d : List ℕ) (r s : Input) → Telling got (Reads text links a space c) r → Telling got (Reads text links b space d) s
+pub told-reading-unique : (text : List ℕ) (links a b : List Link) (space c d : List ℕ) (r s : Input) → Telling toldReading (Reads text links a space c) r → Telling toldReading (Reads text links b space d) s
     → (r ≡ s) × (a ≡ b) × (c ≡ d)
 told-reading-unique text links a b space c d r s x y =
     let one = one-reading text links a b space c d (x .answer) (y .answer) (x .kept-by) (y .kept-by) in
     (telling-same r s x y (one .0), one .1, one .2)
 
 -- both writers, each at its first refusal and its text
-pub told-writing-unique : (j : Judged) (text room a b : List ℕ) (r s : Count) → Telling wrote (Writes j text room a) r → Telling wrote (Writes j text room b) s → (r ≡ s) × (a ≡ b)
+pub told-writing-unique : (j : Judged) (text room a b : List ℕ) (r s : ToldCount) → Telling toldWritten (Writes j text room a) r → Telling toldWritten (Writes j text room b) s → (r ≡ s) × (a ≡ b)
 told-writing-unique j text room a b r s x y =
     let one = one-writing j text room a b (x .answer) (y .answer) (x .kept-by) (y .kept-by) in
     (telling-same r s x y (one .0), one .1)

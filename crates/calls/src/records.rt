@@ -1,7 +1,7 @@
 // The calls from C over link records: in C an array of struct bones_link, a pointer and then a number of links. They are proved by hand, so each only
 // passes on what it was lent, and tells the answer.
-use crate::told::Count;
 use crate::told::Told;
+use crate::told::ToldCount;
 use crate::told::tell;
 use crate::told::tell_kept;
 use cutting::checking_records;
@@ -10,7 +10,7 @@ use cutting::thinning_records;
 use meaning::Link;
 ghost use mathlib.Core.Bool.{true};
 ghost use Rattle.cutting.specs.Calls.{Checking, Grouping, ThinningRecords};
-ghost use Rattle.calls.specs.Told.{told, kept, Telling};
+ghost use Rattle.calls.specs.Told.{told, toldThinned, Telling};
 
 #[no_mangle]
 pub extern "C" fn bones_grouping_records(
@@ -45,8 +45,8 @@ pub extern "C" fn bones_thinning_records(
     k: u64,
     links: &[Link],
     space: &mut [Link],
-) -> Count
-    ensures { λ r. ⌜ Telling kept (ThinningRecords n k (now (links .entry)) (now (space .entry)) (now (space .exit))) r ⌝ }
+) -> ToldCount
+    ensures { λ r. ⌜ Telling toldThinned (ThinningRecords n k (now (links .entry)) (now (space .entry)) (now (space .exit))) r ⌝ }
 {
     tell_kept(thinning_records(n, k, links, space))
 }

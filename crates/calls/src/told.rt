@@ -5,7 +5,7 @@ use texts::Reading;
 use texts::Written;
 ghost use mathlib.Core.Path.{_≡_};
 ghost use mathlib.Core.Bool.{cond};
-ghost use Rattle.calls.specs.Told.{told, kept, wrote, got};
+ghost use Rattle.calls.specs.Told.{told, toldThinned, toldWritten, toldReading};
 
 // Of grouping and checking: the refusal's number, nought where nothing is refused, and its place; the number of groups or piles, and whether the run of
 // cuts is finished.
@@ -19,7 +19,7 @@ pub struct Told {
 
 // Of thinning and the writers: the refusal, or how many links were kept, how many bytes written.
 #[repr(C)]
-pub struct Count {
+pub struct ToldCount {
     pub number: u32,
     pub place: u32,
     pub count: u32,
@@ -62,16 +62,16 @@ pub(crate) fn tell(answer: Answer) -> Told
     }
 }
 
-pub(crate) fn tell_kept(thinned: Thinned) -> Count
-    ensures { λ r. ⌜ r ≡ kept thinned ⌝ }
+pub(crate) fn tell_kept(thinned: Thinned) -> ToldCount
+    ensures { λ r. ⌜ r ≡ toldThinned thinned ⌝ }
 {
     match thinned {
-        Thinned::Refused { number, place } => Count {
+        Thinned::Refused { number, place } => ToldCount {
             number,
             place,
             count: 0,
         },
-        Thinned::Kept { count } => Count {
+        Thinned::Kept { count } => ToldCount {
             number: 0,
             place: 0,
             count,
@@ -79,16 +79,16 @@ pub(crate) fn tell_kept(thinned: Thinned) -> Count
     }
 }
 
-pub(crate) fn tell_written(written: Written) -> Count
-    ensures { λ r. ⌜ r ≡ wrote written ⌝ }
+pub(crate) fn tell_written(written: Written) -> ToldCount
+    ensures { λ r. ⌜ r ≡ toldWritten written ⌝ }
 {
     match written {
-        Written::Refused { number, place } => Count {
+        Written::Refused { number, place } => ToldCount {
             number,
             place,
             count: 0,
         },
-        Written::Bytes { count } => Count {
+        Written::Wrote { count } => ToldCount {
             number: 0,
             place: 0,
             count,
@@ -97,7 +97,7 @@ pub(crate) fn tell_written(written: Written) -> Count
 }
 
 pub(crate) fn tell_read(reading: Reading) -> Input
-    ensures { λ r. ⌜ r ≡ got reading ⌝ }
+    ensures { λ r. ⌜ r ≡ toldReading reading ⌝ }
 {
     match reading {
         Reading::Refused { number, place } => Input {

@@ -4,17 +4,22 @@ use Prim.Native.Nat.{ℕ, _*_, _-_, _≤_, _<_}
 use mathlib.Core.Path.{_≡_, refl, sym, _∙_, ap, subst}
 use mathlib.Core.Bool.{true}
 use mathlib.Core.List.{List, _∷_}
+use native.Mathlib.Omega.{arith}
+use lib.ListN.{length}
 use borrow.Author.Tests.{lt-ltb, le-ltb}
 use Rattle.meaning.specs.declared.Judged.{Judged}
 use Rattle.meaning.specs.declared.Judged.the-variants.{Accepted, Refused}
 use Rattle.meaning.specs.Judge.{refuse, first}
+use Rattle.meaning.specs.Room.{over, fitted}
+use Rattle.meaning.proofs.Room.{settled-new, settled-was, fitted-all}
 use Rattle.meaning.specs.Tally.{Tally}
 use Rattle.meaning.specs.Firm.{label, groups}
 use Rattle.meaning.specs.Heap.{Heap, start, left, piles, finished}
 use Rattle.cutting.specs.Record.{entrySize, cutsOf}
-use Rattle.cutting.specs.Names.{settled, written}
+use Rattle.cutting.specs.Names.{names}
 use Rattle.cutting.specs.declared.Answer.{Answer}
 use Rattle.cutting.specs.declared.Answer.the-variants.{Gave, Refused as Refused·answer}
+use Rattle.cutting.proofs.Names.{length-names}
 use Rattle.cutting.specs.Rows.{labelRow, spaceRow}
 use Rattle.cutting.specs.Runs.{answered, Checked, Continued, Recorded, Grouped}
 
@@ -40,42 +45,43 @@ module _ (n room : ℕ) (js : List Judged) where
 
 module _ (rows : List Judged) (n : ℕ) (w : Tally) (k : ℕ) (bytes labels : List ℕ) (number place : ℕ) (e : first rows ≡ Refused number place) where
   pub checked-refused : Checked rows n w k bytes labels labels (Refused·answer number place)
-  unfolding answered settled
+  unfolding answered
   checked-refused =
       record {
         answer = ap (λ (j : Judged). answered j (piles n (left n start (cutsOf bytes))) (finished n w k (left n start (cutsOf bytes)))) (sym e);
-        names-left = ap (λ (j : Judged). settled j labels (written n (left n start (cutsOf bytes)) labels)) (sym e);
+        names-left = sym (settled-was labels _ e);
       }
 
   pub grouped-refused : (space : List ℕ) → Grouped rows n w k bytes labels labels space space (Refused·answer number place)
-  unfolding answered settled Recorded
+  unfolding answered Recorded
   grouped-refused space =
       record {
         answer = ap (λ (j : Judged). answered j (groups n w k) true) (sym e);
-        labels-left = ap (λ (j : Judged). settled j labels (written n (label n w k) labels)) (sym e);
+        labels-left = sym (settled-was labels _ e);
         record-left = subst (λ (j : Judged). Recorded j n w k bytes space space) (sym e) refl;
       }
 
 -- ---- accepted
 
 module _ (rows : List Judged) (n : ℕ) (w : Tally) (k : ℕ) (bytes labels labels′ : List ℕ) (e : first rows ≡ Accepted) where
-  pub checked-accepted : (h : Heap) (r : Answer) → h ≡ left n start (cutsOf bytes) → r ≡ Gave (piles n h) (finished n w k h) → labels′ ≡ written n h labels → Checked rows n w k bytes labels labels′ r
-  unfolding answered settled
-  checked-accepted h r p q l =
+  pub checked-accepted : (h : Heap) (r : Answer) → h ≡ left n start (cutsOf bytes) → r ≡ Gave (piles n h) (finished n w k h) → n ≤ length labels → labels′ ≡ fitted labels 0 (names n h) → Checked rows n w k bytes labels labels′ r
+  unfolding answered
+  checked-accepted h r p q f l =
       record {
         answer = q
             ∙ ap (λ (x : Heap). Gave (piles n x) (finished n w k x)) p
             ∙ ap (λ (j : Judged). answered j (piles n (left n start (cutsOf bytes))) (finished n w k (left n start (cutsOf bytes)))) (sym e);
         names-left = l
-            ∙ ap (λ (x : Heap). written n x labels) p
-            ∙ ap (λ (j : Judged). settled j labels (written n (left n start (cutsOf bytes)) labels)) (sym e);
+            ∙ fitted-all labels 0 (names n h) (omega (arith, length-names n h))
+            ∙ ap (λ (x : Heap). over labels 0 (names n x)) p
+            ∙ sym (settled-new labels _ e);
       }
 
-  pub grouped-accepted : (space space′ : List ℕ) (r : Answer) → r ≡ Gave (groups n w k) true → labels′ ≡ written n (label n w k) labels → Continued n w k bytes space space′ → Grouped rows n w k bytes labels labels′ space space′ r
-  unfolding answered settled Recorded
-  grouped-accepted space space′ r q l c =
+  pub grouped-accepted : (space space′ : List ℕ) (r : Answer) → r ≡ Gave (groups n w k) true → n ≤ length labels → labels′ ≡ fitted labels 0 (names n (label n w k)) → Continued n w k bytes space space′ → Grouped rows n w k bytes labels labels′ space space′ r
+  unfolding answered Recorded
+  grouped-accepted space space′ r q f l c =
       record {
         answer = q ∙ ap (λ (j : Judged). answered j (groups n w k) true) (sym e);
-        labels-left = l ∙ ap (λ (j : Judged). settled j labels (written n (label n w k) labels)) (sym e);
+        labels-left = l ∙ fitted-all labels 0 (names n (label n w k)) (omega (arith, length-names n (label n w k))) ∙ sym (settled-new labels _ e);
         record-left = subst (λ (j : Judged). Recorded j n w k bytes space space′) (sym e) c;
       }

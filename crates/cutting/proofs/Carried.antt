@@ -26,7 +26,8 @@ use Rattle.cutting.specs.declared.Answer.{Answer}
 use Rattle.cutting.specs.Record.{entrySize, cutsOf}
 use Rattle.cutting.specs.RecordRows.{recordRow, recordRows}
 use Rattle.cutting.specs.Rows.{labelRow, spaceRow, checkingRows, groupingRows}
-use Rattle.cutting.specs.Names.{settled, written}
+use Rattle.meaning.specs.Room.{over, settled}
+use Rattle.cutting.specs.Names.{names}
 use Rattle.cutting.specs.Runs.{answered, Checked, Continued, Recorded, Grouped}
 use Rattle.cutting.proofs.Small.{links-total, length-tallied}
 use Rattle.cutting.proofs.Alike.{Alike, label-alike, groups-alike, finished-alike, entries-alike, run-alike}
@@ -40,7 +41,7 @@ module _ (n : ℕ) (v w : Tally) (alike : Alike n v w) (k : ℕ) where
   checked-alike rows rows′ bytes labels labels′ r e c =
       record {
         answer = c .answer ∙ ap₂ (λ (j : Judged) (t : Bool). answered j (piles n (left n start (cutsOf bytes))) t) e (finished-alike n v w alike k (left n start (cutsOf bytes)));
-        names-left = c .names-left ∙ ap (λ (j : Judged). settled j labels (written n (left n start (cutsOf bytes)) labels)) e;
+        names-left = c .names-left ∙ ap (λ (j : Judged). settled j labels (over labels 0 (names n (left n start (cutsOf bytes))))) e;
       }
 
   continued-alike : (bytes space space′ : List ℕ) → Continued n v k bytes space space′ → Continued n w k bytes space space′
@@ -62,7 +63,7 @@ module _ (n : ℕ) (v w : Tally) (alike : Alike n v w) (k : ℕ) where
   grouped-alike rows rows′ bytes labels labels′ space space′ r e c =
       record {
         answer = c .answer ∙ ap₂ (λ (j : Judged) (m : ℕ). answered j m true) e (groups-alike n v w alike k);
-        labels-left = c .labels-left ∙ ap₂ (λ (j : Judged) (h : Heap). settled j labels (written n h labels)) e (label-alike n v w alike k);
+        labels-left = c .labels-left ∙ ap₂ (λ (j : Judged) (h : Heap). settled j labels (over labels 0 (names n h))) e (label-alike n v w alike k);
         record-left = subst (λ (j : Judged). Recorded j n w k bytes space space′) e (recorded-alike (first rows) bytes space space′ (c .record-left));
       }
 

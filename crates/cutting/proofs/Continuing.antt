@@ -4,11 +4,10 @@ use Prim.Native.Nat.{ℕ, _+_, _*_, _-_, _/_, _%_, _≤_, _<_}
 use mathlib.Core.Path.{_≡_, refl, sym, _∙_, ap, ap₂, subst}
 use mathlib.Core.Bool.{Bool, true, false, not, _||_}
 use mathlib.Core.List.{List, _++_}
-use native.Mathlib.Nat.{zero-add}
 use native.Mathlib.Omega.{arith}
 use lib.Dec.{T, eqb, ltb}
-use lib.ListN.{length, take, drop, length-append, length-drop}
-use lib.Seq.{paste, take-length, take-at, drop-drop, drop-append-add}
+use lib.ListN.{length, take, drop}
+use lib.Seq.{take-at, drop-drop, drop-append-add}
 use borrow.Author.Tests.{eqb-true, ltb-false, not-false}
 use Rattle.meaning.specs.declared.Judged.the-variants.{Accepted}
 use Rattle.meaning.specs.Judge.{first}
@@ -19,9 +18,11 @@ use Rattle.weighing.specs.Side.{heapOf}
 use Rattle.cutting.specs.Record.{entrySize, cutsIn, cutsOf}
 use Rattle.cutting.specs.RecordRows.{recordRow, recordRows}
 use Rattle.cutting.specs.Finish.{Begun, Ended}
-use Rattle.cutting.specs.Names.{written}
+use Rattle.meaning.specs.Room.{over}
+use Rattle.meaning.proofs.Room.{over-front, length-over}
+use Rattle.cutting.specs.Names.{names}
 use Rattle.cutting.specs.Runs.{Continued}
-use Rattle.cutting.proofs.Names.{written-same}
+use Rattle.cutting.proofs.Names.{names-same}
 use Rattle.cutting.proofs.Cuts.{length-cuts, cuts-front, cuts-of}
 use Rattle.cutting.proofs.Narrow.{narrow-cuts}
 use Rattle.cutting.proofs.Lawful.{row-accepted, entries-lawful}
@@ -57,14 +58,14 @@ record-sound n w k bytes e =
 module _ (n : ℕ) (w : Tally) (k : ℕ) (bytes space : List ℕ) (s : Sound n w k bytes) (some-bones : 0 < n) (room : entrySize * (n - 1) ≤ length space) where
   -- the space with the given entries at its front
   begun : List ℕ
-  begun = paste space 0 bytes (length bytes)
+  begun = over space 0 bytes
 
   fits : length bytes ≤ length space
   fits = omega (arith, s .whole, s .few)
 
   begun-is : begun ≡ bytes ++ drop (length bytes) space
   unfolding begun
-  begun-is = ap₂ (λ (x : List ℕ) (m : ℕ). x ++ drop m space) (take-length bytes) (zero-add (length bytes))
+  begun-is = over-front space bytes
 
   begun-cuts : cutsIn (length bytes / entrySize) begun ≡ cutsOf bytes
   unfolding cutsOf
@@ -73,9 +74,10 @@ module _ (n : ℕ) (w : Tally) (k : ℕ) (bytes space : List ℕ) (s : Sound n w
       ∙ cuts-front (length bytes / entrySize) bytes (drop (length bytes) space) (omega arith)
 
   begun-long : length begun ≡ length space
-  begun-long = ap length begun-is ∙ length-append bytes (drop (length bytes) space) ∙ omega (arith, length-drop (length bytes) space, fits)
+  unfolding begun
+  begun-long = length-over space 0 bytes (omega (arith, fits))
 
-  pub given-begins : (names : List ℕ) → n ≤ 128 → k ≤ 65535 → heapOf names ≡ left n start (cutsOf bytes) → length names ≡ 128 → Begun n w k names (paste space 0 bytes (length bytes)) (length bytes / entrySize)
+  pub given-begins : (names : List ℕ) → n ≤ 128 → k ≤ 65535 → heapOf names ≡ left n start (cutsOf bytes) → length names ≡ 128 → Begun n w k names (over space 0 bytes) (length bytes / entrySize)
   unfolding begun
   given-begins names few low e long =
       record {
@@ -88,7 +90,7 @@ module _ (n : ℕ) (w : Tally) (k : ℕ) (bytes space : List ℕ) (s : Sound n w
         names-long = long;
       }
 
-  module _ (names′ space′ : List ℕ) (cuts′ : ℕ) (e : Ended n w k (paste space 0 bytes (length bytes)) (length bytes / entrySize) names′ space′ cuts′) where
+  module _ (names′ space′ : List ℕ) (cuts′ : ℕ) (e : Ended n w k (over space 0 bytes) (length bytes / entrySize) names′ space′ cuts′) where
     done : T (finished n w k (left n start (cutsIn cuts′ space′)))
     done = subst (λ (h : Heap). T (finished n w k h)) (e .heap) (e .done)
 
@@ -123,9 +125,8 @@ module _ (n : ℕ) (w : Tally) (k : ℕ) (bytes space : List ℕ) (s : Sound n w
             ∙ drop-drop (cuts′ * entrySize - length bytes) (length bytes) space
             ∙ ap (λ (m : ℕ). drop m space) more
 
-    pub ended-labels : (labels : List ℕ) → written n (heapOf names′) labels ≡ written n (label n w k) labels
-    ended-labels labels =
-        written-same n (heapOf names′) (label n w k) labels (ended-label n w k _ _ names′ space′ cuts′ some-bones e)
+    pub ended-labels : names n (heapOf names′) ≡ names n (label n w k)
+    ended-labels = names-same n (heapOf names′) (label n w k) (ended-label n w k _ _ names′ space′ cuts′ some-bones e)
 
     pub ended-groups : piles n (heapOf names′) ≡ groups n w k
     ended-groups = ap (piles n) (e .heap) ∙ run-groups n w k some-bones (cutsIn cuts′ space′) (e .run) done

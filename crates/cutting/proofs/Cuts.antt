@@ -10,8 +10,8 @@ use lib.ListN.{length, getD, take, drop, List·getD-append, length-drop, length-
 use lib.Seq.{drop-drop, drop-append-le, take-append-le}
 use Rattle.meaning.specs.Heap.{Cut}
 use Rattle.cutting.specs.declared.record.Entry.{Entry}
-use Rattle.cutting.specs.Record.{entrySize, entryOf, entryBytes, entryAt, entryPut, cutOf, cutsIn, cutsOf}
-use Rattle.cutting.proofs.Entries.{at-whole, put-whole, length-put, read-written, take-put}
+use Rattle.cutting.specs.Record.{entrySize, entryOf, entryAt, entryPut, entryCut, cutsIn, cutsOf}
+use Rattle.cutting.proofs.Entries.{at-whole, length-put, put-before, read-written}
 
 pub length-cuts : (m : ℕ) (bytes : List ℕ) → length (cutsIn m bytes) ≡ m
 unfolding cutsIn
@@ -25,14 +25,14 @@ cuts-start bytes = ap (λ (m : ℕ). cutsIn m bytes) (sym (sub-zero (length byte
 
 -- the cuts from place i on are the one in that place and those after it; past the last whole entry there are none
 pub cuts-next : (bytes : List ℕ) (i : ℕ) {e : Entry} → i < length bytes / entrySize → e ≡ entryAt bytes i
-    → cutsIn (length bytes / entrySize - i) (drop (i * entrySize) bytes) ≡ cutOf e ∷ cutsIn (length bytes / entrySize - (i + 1)) (drop ((i + 1) * entrySize) bytes)
+    → cutsIn (length bytes / entrySize - i) (drop (i * entrySize) bytes) ≡ entryCut e ∷ cutsIn (length bytes / entrySize - (i + 1)) (drop ((i + 1) * entrySize) bytes)
 unfolding cutsIn
 cuts-next bytes i {e} h q =
     let more : length bytes / entrySize - i ≡ suc (length bytes / entrySize - (i + 1)) = omega arith in
     let step : i * entrySize + entrySize ≡ (i + 1) * entrySize = omega arith in
     ap (λ (m : ℕ). cutsIn m (drop (i * entrySize) bytes)) more
     ∙ ap₂ (λ (c : Cut) (x : List ℕ). c ∷ cutsIn (length bytes / entrySize - (i + 1)) x)
-    (ap cutOf (sym (at-whole bytes i h) ∙ sym q))
+    (ap entryCut (sym (at-whole bytes i h) ∙ sym q))
     (drop-drop entrySize (i * entrySize) bytes ∙ ap (λ (m : ℕ). drop m bytes) step)
 
 pub cuts-end : (bytes : List ℕ) (i : ℕ) → length bytes / entrySize ≤ i → cutsIn (length bytes / entrySize - i) (drop (i * entrySize) bytes) ≡ []
@@ -42,23 +42,23 @@ cuts-end bytes i h =
     ap (λ (m : ℕ). cutsIn m (drop (i * entrySize) bytes)) none
 
 -- one entry more
-pub cuts-more : (m : ℕ) (bytes : List ℕ) → cutsIn (m + 1) bytes ≡ cutsIn m bytes ++ cutOf (entryOf (drop (m * entrySize) bytes)) ∷ []
+pub cuts-more : (m : ℕ) (bytes : List ℕ) → cutsIn (m + 1) bytes ≡ cutsIn m bytes ++ entryCut (entryOf (drop (m * entrySize) bytes)) ∷ []
 unfolding cutsIn
 cuts-more m bytes = ap (λ (x : ℕ). cutsIn x bytes) (add-one m) ∙ go m bytes
   where
-    go : (m : ℕ) (bytes : List ℕ) → cutsIn (suc m) bytes ≡ cutsIn m bytes ++ cutOf (entryOf (drop (m * entrySize) bytes)) ∷ []
+    go : (m : ℕ) (bytes : List ℕ) → cutsIn (suc m) bytes ≡ cutsIn m bytes ++ entryCut (entryOf (drop (m * entrySize) bytes)) ∷ []
     go zero bytes = refl
     go (suc m) bytes =
         let step : entrySize + m * entrySize ≡ suc m * entrySize = omega arith in
-        ap (λ (cs : List Cut). cutOf (entryOf bytes) ∷ cs)
+        ap (λ (cs : List Cut). entryCut (entryOf bytes) ∷ cs)
         (go m (drop entrySize bytes)
-        ∙ ap (λ (x : List ℕ). cutsIn m (drop entrySize bytes) ++ cutOf (entryOf x) ∷ []) (drop-drop (m * entrySize) entrySize bytes ∙ ap (λ (y : ℕ). drop y bytes) step))
+        ∙ ap (λ (x : List ℕ). cutsIn m (drop entrySize bytes) ++ entryCut (entryOf x) ∷ []) (drop-drop (m * entrySize) entrySize bytes ∙ ap (λ (y : ℕ). drop y bytes) step))
 
 -- what stands behind an entry, and behind m of them, does not count
-entry-front : (a b : List ℕ) → 21 ≤ length a → entryOf (a ++ b) ≡ entryOf a
+entry-front : (a b : List ℕ) → entrySize ≤ length a → entryOf (a ++ b) ≡ entryOf a
 unfolding entryOf
 entry-front a b h =
-    let at : (j : ℕ) → j < 21 → getD (a ++ b) j 0 ≡ getD a j 0 = λ j l. List·getD-append a b 0 j (omega arith) in
+    let at : (j : ℕ) → j < entrySize → getD (a ++ b) j 0 ≡ getD a j 0 = λ j l. List·getD-append a b 0 j (omega arith) in
     let five : drop 5 (a ++ b) ≡ drop 5 a ++ b = drop-append-le 5 a b (omega arith) in
     let y : take 16 (drop 5 (a ++ b)) ≡ take 16 (drop 5 a) = ap (take 16) five ∙ take-append-le 16 (drop 5 a) b (simp length-drop (omega arith)) in
     λ i.
@@ -72,7 +72,7 @@ pub cuts-front : (m : ℕ) (a b : List ℕ) → m * entrySize ≤ length a → c
 unfolding cutsIn
 cuts-front zero a b h = refl
 cuts-front (suc m) a b h =
-    ap₂ (λ (e : Entry) (cs : List Cut). cutOf e ∷ cs)
+    ap₂ (λ (e : Entry) (cs : List Cut). entryCut e ∷ cs)
     (entry-front a b (omega arith))
     (ap (cutsIn m) (drop-append-le entrySize a b (omega arith)) ∙ cuts-front m (drop entrySize a) b (simp length-drop (omega arith)))
 
@@ -91,12 +91,12 @@ cuts-of m bytes h =
 
 -- the cuts once entry m was written behind the first m
 pub cuts-put : (m : ℕ) (bytes : List ℕ) (e : Entry) → m < length bytes / entrySize → length (e .side) ≡ 16
-    → cutsIn (m + 1) (entryPut bytes m e) ≡ cutsIn m bytes ++ cutOf e ∷ []
+    → cutsIn (m + 1) (entryPut bytes m e) ≡ cutsIn m bytes ++ entryCut e ∷ []
 cuts-put m bytes e h long =
     let l = length-put bytes m e long in
     cuts-more m (entryPut bytes m e)
-    ∙ ap₂ (λ (cs : List Cut) (x : Entry). cs ++ cutOf x ∷ [])
+    ∙ ap₂ (λ (cs : List Cut) (x : Entry). cs ++ entryCut x ∷ [])
     (sym (cuts-take m (entryPut bytes m e) (omega arith))
-    ∙ ap (cutsIn m) (ap (take (m * entrySize)) (put-whole bytes m e h) ∙ take-put bytes (m * entrySize) (entryBytes e) entrySize (omega arith))
+    ∙ ap (cutsIn m) (put-before bytes m e h)
     ∙ cuts-take m bytes (omega arith))
     (sym (at-whole (entryPut bytes m e) m (omega arith)) ∙ read-written bytes m e h long)

@@ -24,10 +24,12 @@ use Rattle.cutting.specs.declared.Answer.the-variants.{Gave, Refused as 
 use Rattle.cutting.specs.Record.{entrySize, cutsOf}
 use Rattle.cutting.specs.RecordRows.{recordRows, entriesRows}
 use Rattle.cutting.specs.Rows.{checkingRows, groupingRows}
-use Rattle.cutting.specs.Names.{settled, written}
+use Rattle.meaning.specs.Room.{over}
+use Rattle.meaning.proofs.Room.{settled-new}
+use Rattle.cutting.specs.Names.{names}
 use Rattle.cutting.specs.Runs.{answered, Recorded, Continued}
 use Rattle.cutting.specs.Calls.{Checking, Grouping}
-use Rattle.cutting.proofs.Names.{written-same}
+use Rattle.cutting.proofs.Names.{names-same}
 use Rattle.cutting.proofs.Cuts.{length-cuts}
 use Rattle.cutting.proofs.Narrow.{narrow-cuts}
 use Rattle.cutting.proofs.Lawful.{Stopped, entries-lawful, lawful-entries, entries-stop, record-fits}
@@ -59,12 +61,12 @@ module _ (n k : ℕ) (good : Bool) (links : List Link) (judged : first (tableRow
   -- any lawful run is kept, continued and ends at the labels
   pub kept-and-continued : (bytes labels labels′ space space′ : List ℕ) (r : Answer) → n ≤ length labels → entrySize * (n - 1) ≤ length space → Sound n (pairTally links) k bytes
       → Grouping n k good links bytes labels labels′ space space′ r
-      → (r ≡ Gave (groups n (pairTally links) k) true) × (labels′ ≡ written n (label n (pairTally links) k) labels) × Continued n (pairTally links) k bytes space space′
-  unfolding answered settled Recorded
+      → (r ≡ Gave (groups n (pairTally links) k) true) × (labels′ ≡ over labels 0 (names n (label n (pairTally links) k))) × Continued n (pairTally links) k bytes space space′
+  unfolding answered Recorded
   kept-and-continued bytes labels labels′ space space′ r l m s g =
       let e = grouping-accepted bytes (length labels) (length space) l m s in (
         g .answer ∙ ap (λ (j : Judged). answered j (groups n (pairTally links) k) true) e,
-        g .labels-left ∙ ap (λ (j : Judged). settled j labels (written n (label n (pairTally links) k) labels)) e,
+        g .labels-left ∙ settled-new labels _ e,
         subst (λ (j : Judged). Recorded j n (pairTally links) k bytes space space′) e (g .record-left),
       )
 
@@ -103,15 +105,15 @@ module _ (n k : ℕ) (good : Bool) (links : List Link) (judged : first (tableRow
 
     -- handed to checking it is finished, with the same count and labels
     pub own-checked : (labels labels′ : List ℕ) (r : Answer) → n ≤ length labels → Checking n k good links own labels labels′ r
-        → (r ≡ Gave (groups n (pairTally links) k) true) × (labels′ ≡ written n (label n (pairTally links) k) labels)
-    unfolding answered settled own
+        → (r ≡ Gave (groups n (pairTally links) k) true) × (labels′ ≡ over labels 0 (names n (label n (pairTally links) k)))
+    unfolding answered own
     own-checked labels labels′ r l g =
         let e = checking-accepted own (length labels) l own-sound in
         let p = run-groups n (pairTally links) k (counted .some-bones) (cutsOf own) (c .lawful) (c .done) in
-        let h = written-same n (left n start (cutsOf own)) (label n (pairTally links) k) labels (run-labels n (pairTally links) k (counted .some-bones) (cutsOf own) (c .lawful) (c .done)) in (
+        let h = names-same n (left n start (cutsOf own)) (label n (pairTally links) k) (run-labels n (pairTally links) k (counted .some-bones) (cutsOf own) (c .lawful) (c .done)) in (
           g .answer ∙ ap (λ (j : Judged). answered j (piles n (left n start (cutsOf own))) (finished n (pairTally links) k (left n start (cutsOf own)))) e
               ∙ ap₂ Gave p (Rattle.meaning.proofs.Tests.is-true (finished n (pairTally links) k (left n start (cutsOf own))) (c .done)),
-          g .names-left ∙ ap (λ (j : Judged). settled j labels (written n (left n start (cutsOf own)) labels)) e ∙ h,
+          g .names-left ∙ settled-new labels _ e ∙ ap (over labels 0) h,
         )
 
     -- grouped again, nothing is added to it

@@ -1,44 +1,20 @@
--- Laws of entries as bytes: a run put into another in one go or in two, and reading and writing an entry undo each other.
+-- Laws of entries as bytes: what writing one leaves around it, and reading and writing an entry undo each other.
 -- Assumes nothing.
-use Prim.Native.Nat.{ℕ, _+_, _*_, _-_, _/_, _%_, _^_, _≤_, _<_, min}
-use mathlib.Core.Path.{_≡_, sym, _∙_, ap, ap₂}
+use Prim.Native.Nat.{ℕ, _+_, _*_, _/_, _%_, _^_, _≤_, _<_}
+use mathlib.Core.Path.{_≡_, sym, _∙_, ap, subst}
 use mathlib.Core.Logic.{⊎-elim}
-use mathlib.Core.List.{List, [], _∷_, _++_, append-assoc, append-nil}
-use native.Mathlib.Nat.{le-refl, add-zero, add-assoc}
+use mathlib.Core.List.{List, [], _∷_, _++_}
+use native.Mathlib.Nat.{add-zero}
 use native.Mathlib.Omega.{arith}
 use lib.Dec.{ltb, ltb→lt, nltb→le}
-use lib.ListN.{length, getD, take, drop, length-drop, drop-of-length-le, take-append-drop, replicate}
-use lib.Seq.{paste, take-all, take-length, take-append-add, take-at, drop-at, drop-drop, getD-drop, length-take-le, take-take, take-add, length-paste, drop-paste, take-paste}
+use lib.ListN.{length, getD, take, drop, length-drop, replicate}
+use lib.Seq.{take-at, drop-drop, getD-drop}
 use borrow.Author.Tests.{lt-ltb, le-ltb}
+use Rattle.meaning.specs.Room.{over}
 use Rattle.meaning.proofs.Tests.{decide}
+use Rattle.meaning.proofs.Room.{length-over, before-place, from-place, behind-items, over-same}
 use Rattle.cutting.specs.declared.record.Entry.{Entry}
 use Rattle.cutting.specs.Record.{entrySize, entryOf, entryBytes, entryAt, entryPut}
-
--- a run put over another of the same length is that run
-pub paste-over : (d s : List ℕ) → length s ≡ length d → paste d 0 s (length s) ≡ s
-paste-over d s e =
-    let past : length d ≤ 0 + length s = omega arith in
-    ap₂ _++_ (take-length s) (drop-of-length-le d past) ∙ append-nil s
-
--- where there is room for the whole run, all of it is put in
-pub paste-fits : {A : Type 0} (d : List A) (at : ℕ) (s : List A) → at + length s ≤ length d → paste d at s (min (length s) (length d - at)) ≡ paste d at s (length s)
-paste-fits d at s h =
-    let all : min (length s) (length d - at) ≡ length s = omega arith in
-    ap (λ (m : ℕ). paste d at s m) all
-
--- one run put behind another is the two put together
-pub paste-more : (d : List ℕ) (at : ℕ) (s t : List ℕ) → at + length s + length t ≤ length d
-    → paste (paste d at s (length s)) (at + length s) t (length t) ≡ paste d at (s ++ t) (length s + length t)
-paste-more d at s t h =
-    ap₂ (λ (x y : List ℕ). x ++ take (length t) t ++ y)
-    (take-paste d at s (length s) (omega arith) (le-refl (length s)))
-    (sym (drop-drop (length t) (at + length s) (paste d at s (length s)))
-    ∙ ap (drop (length t)) (drop-paste d at s (length s) (omega arith) (le-refl (length s)))
-    ∙ drop-drop (length t) (at + length s) d
-    ∙ ap (λ (m : ℕ). drop m d) (add-assoc at (length s) (length t)))
-    ∙ ap (λ (x : List ℕ). x ++ drop (at + (length s + length t)) d)
-    (append-assoc (take at d) (take (length s) s) (take (length t) t)
-    ∙ ap (λ (x : List ℕ). take at d ++ x) (ap (λ (x : List ℕ). x ++ take (length t) t) (take-length s) ∙ sym (take-append-add s t (length t))))
 
 -- where the entry in place i is whole, and where it is not
 pub at-whole : (bytes : List ℕ) (i : ℕ) → i < length bytes / entrySize → entryAt bytes i ≡ entryOf (drop (i * entrySize) bytes)
@@ -49,7 +25,7 @@ pub at-none : (bytes : List ℕ) (i : ℕ) → length bytes / entrySize ≤ i �
 unfolding entryAt
 at-none bytes i h = simp (le-ltb i (length bytes / entrySize) h)
 
-pub put-whole : (bytes : List ℕ) (i : ℕ) (e : Entry) → i < length bytes / entrySize → entryPut bytes i e ≡ paste bytes (i * entrySize) (entryBytes e) entrySize
+pub put-whole : (bytes : List ℕ) (i : ℕ) (e : Entry) → i < length bytes / entrySize → entryPut bytes i e ≡ over bytes (i * entrySize) (entryBytes e)
 unfolding entryPut
 put-whole bytes i e h = simp (lt-ltb i (length bytes / entrySize) h)
 
@@ -79,7 +55,7 @@ entry-bytes e rest long =
     λ i. record { pile = e .pile; weight = x i; side = y i }
 
 -- and bytes are those of the entry that they mean
-pub bytes-entry : (bytes : List ℕ) → 21 ≤ length bytes → ((j : ℕ) → getD bytes j 0 < 256) → entryBytes (entryOf bytes) ≡ take 21 bytes
+pub bytes-entry : (bytes : List ℕ) → entrySize ≤ length bytes → ((j : ℕ) → getD bytes j 0 < 256) → entryBytes (entryOf bytes) ≡ take entrySize bytes
 unfolding entryOf entryBytes
 bytes-entry [] h f = absurd (omega arith)
 bytes-entry (p ∷ []) h f = absurd (omega arith)
@@ -94,27 +70,27 @@ bytes-entry (p ∷ a ∷ b ∷ c ∷ d ∷ rest) h f =
     let v : w % 256 ≡ d = omega (arith, f 1, f 2, f 3, f 4) in
     λ i. p ∷ x i ∷ y i ∷ z i ∷ v i ∷ take 16 rest
 
-pub length-bytes : (e : Entry) → length (e .side) ≡ 16 → length (entryBytes e) ≡ 21
+pub length-bytes : (e : Entry) → length (e .side) ≡ 16 → length (entryBytes e) ≡ entrySize
 unfolding entryBytes
 length-bytes e long = omega arith
 
--- what stands from the place on once a run was put there
-pub drop-put : (d : List ℕ) (at : ℕ) (s : List ℕ) (n : ℕ) → at ≤ length d → drop at (paste d at s n) ≡ take n s ++ drop (at + n) d
-drop-put d at s n h =
-    ap (drop at) (append-assoc (take at d) (take n s) (drop (at + n) d))
-    ∙ drop-at (take at d) (take n s ++ drop (at + n) d) at (length-take-le at d h)
+-- what stands before an entry that was written, and behind it
+pub put-before : (bytes : List ℕ) (i : ℕ) (e : Entry) → i < length bytes / entrySize → take (i * entrySize) (entryPut bytes i e) ≡ take (i * entrySize) bytes
+put-before bytes i e h = ap (take (i * entrySize)) (put-whole bytes i e h) ∙ before-place bytes (i * entrySize) (entryBytes e) (omega arith)
 
-pub take-put : (d : List ℕ) (at : ℕ) (s : List ℕ) (n : ℕ) → at ≤ length d → take at (paste d at s n) ≡ take at d
-take-put d at s n h =
-    ap (take at) (append-assoc (take at d) (take n s) (drop (at + n) d))
-    ∙ take-at (take at d) (take n s ++ drop (at + n) d) at (length-take-le at d h)
+pub put-behind : (bytes : List ℕ) (i : ℕ) (e : Entry) → i < length bytes / entrySize → length (e .side) ≡ 16
+    → drop (i * entrySize + entrySize) (entryPut bytes i e) ≡ drop (i * entrySize + entrySize) bytes
+put-behind bytes i e h long =
+    ap (drop (i * entrySize + entrySize)) (put-whole bytes i e h)
+    ∙ subst (λ (m : ℕ). drop (i * entrySize + m) (over bytes (i * entrySize) (entryBytes e)) ≡ drop (i * entrySize + m) bytes) (length-bytes e long)
+    (behind-items bytes (i * entrySize) (entryBytes e) (omega arith))
 
 pub length-put : (bytes : List ℕ) (i : ℕ) (e : Entry) → length (e .side) ≡ 16 → length (entryPut bytes i e) ≡ length bytes
 length-put bytes i e long =
     ⊎-elim
     (λ t. let h = ltb→lt i (length bytes / entrySize) t in
     let l = length-bytes e long in
-    ap length (put-whole bytes i e h) ∙ length-paste bytes (i * entrySize) (entryBytes e) entrySize (omega arith) (omega arith))
+    ap length (put-whole bytes i e h) ∙ length-over bytes (i * entrySize) (entryBytes e) (omega arith))
     (λ t. ap length (put-none bytes i e (nltb→le i (length bytes / entrySize) t)))
     (decide (ltb i (length bytes / entrySize)))
 
@@ -124,10 +100,8 @@ read-written bytes i e h long =
     let l = length-put bytes i e long in
     at-whole (entryPut bytes i e) i (omega arith)
     ∙ ap (λ (x : List ℕ). entryOf (drop (i * entrySize) x)) (put-whole bytes i e h)
-    ∙ ap entryOf
-    (drop-put bytes (i * entrySize) (entryBytes e) entrySize (omega arith)
-    ∙ ap (λ (x : List ℕ). x ++ drop (i * entrySize + entrySize) bytes) (take-all entrySize (entryBytes e) (omega (arith, length-bytes e long))))
-    ∙ entry-bytes e (drop (i * entrySize + entrySize) bytes) long
+    ∙ ap entryOf (from-place bytes (i * entrySize) (entryBytes e) (omega arith))
+    ∙ entry-bytes e _ long
 
 -- writing what was read changes nothing
 pub written-read : (bytes : List ℕ) (i : ℕ) → ((j : ℕ) → getD bytes j 0 < 256) → entryPut bytes i (entryAt bytes i) ≡ bytes
@@ -136,14 +110,8 @@ written-read bytes i f =
     (λ t. let h = ltb→lt i (length bytes / entrySize) t in
     let at = i * entrySize in
     put-whole bytes i (entryAt bytes i) h
-    ∙ ap (λ (x : List ℕ). paste bytes at x entrySize)
+    ∙ ap (over bytes at)
     (ap entryBytes (at-whole bytes i h) ∙ bytes-entry (drop at bytes) (simp length-drop (omega arith)) (λ j. simp getD-drop (f (at + j))))
-    ∙ same at (omega arith))
+    ∙ over-same bytes at entrySize (omega arith))
     (λ t. put-none bytes i (entryAt bytes i) (nltb→le i (length bytes / entrySize) t))
     (decide (ltb i (length bytes / entrySize)))
-  where
-    same : (at : ℕ) → at + 21 ≤ length bytes → paste bytes at (take 21 (drop at bytes)) 21 ≡ bytes
-    same at h =
-        ap (λ (x : List ℕ). take at bytes ++ x ++ drop (at + 21) bytes) (take-take 21 21 (drop at bytes) (le-refl 21))
-        ∙ ap (λ (x : List ℕ). x ++ drop (at + 21) bytes) (sym (take-add at 21 bytes))
-        ∙ take-append-drop (at + 21) bytes

@@ -9,7 +9,7 @@ use native.Mathlib.Nat.{le-refl, not-suc-le-zero}
 use native.Mathlib.Omega.{arith}
 use lib.Dec.{ltb, ltb→lt, nltb→le}
 use lib.ListN.{length, take, drop}
-use lib.Seq.{take-take, drop-drop, drop-paste}
+use lib.Seq.{take-take, drop-drop}
 use Rattle.meaning.specs.Tally.{Tally}
 use Rattle.meaning.specs.Heap.{Heap, start, Cut, Lawful, LawfulRun, parted, left}
 use Rattle.meaning.proofs.Tests.{decide}
@@ -17,11 +17,11 @@ use Rattle.meaning.proofs.Heaps.{Named}
 use Rattle.meaning.proofs.Runs.{left-append, run-append}
 use Rattle.weighing.specs.Side.{heapOf}
 use Rattle.weighing.specs.declared.search.Split.{Split}
-use Rattle.weighing.specs.Search.{FirmPiles, Searched, cutOf as splitCut}
+use Rattle.weighing.specs.Search.{FirmPiles, Searched, cutOf}
 use Rattle.cutting.specs.declared.record.Entry.{Entry}
-use Rattle.cutting.specs.Record.{entrySize, entryBytes, entryPut, cutOf, cutsIn}
+use Rattle.cutting.specs.Record.{entrySize, entryPut, entryCut, cutsIn}
 use Rattle.cutting.specs.Finish.{Begun, Ended, Going, Peeled}
-use Rattle.cutting.proofs.Entries.{put-whole, length-bytes, length-put, take-put}
+use Rattle.cutting.proofs.Entries.{length-put, put-before, put-behind}
 use Rattle.cutting.proofs.Cuts.{length-cuts, cuts-put}
 use Rattle.cutting.proofs.Finish.{firm-finished, firm-stays, firm-kept, reached, cuts-most, cuts-room}
 
@@ -30,8 +30,8 @@ abbrev pub Found : ℕ → Tally → ℕ → Heap → ℕ → Cut → Type 0
 Found n w k h from c = Lawful n w k h c × (from ≤ c .name) × FirmPiles n w k h from (c .name)
 
 -- the two answers of a search
-pub searched-light : (n : ℕ) (w : Tally) (k : ℕ) (h : Heap) (from : ℕ) (r : Split) (light : Bool) → Searched n w k h from r light → light ≡ true → Found n w k h from (splitCut r)
-unfolding Searched splitCut
+pub searched-light : (n : ℕ) (w : Tally) (k : ℕ) (h : Heap) (from : ℕ) (r : Split) (light : Bool) → Searched n w k h from r light → light ≡ true → Found n w k h from (cutOf r)
+unfolding Searched cutOf
 searched-light n w k h from r light s e = subst (λ (t : Bool). Searched n w k h from r t) e s
 
 pub searched-none : (n : ℕ) (w : Tally) (k : ℕ) (h : Heap) (from : ℕ) (r : Split) (light : Bool) → Searched n w k h from r light → light ≡ false → FirmPiles n w k h from n
@@ -78,21 +78,21 @@ module _ {n : ℕ} {w : Tally} {k : ℕ} {space₀ : List ℕ} {cuts₀ : ℕ} {
   pub firm-peeled : (c : Cut) → Lawful n w k (heapOf names) c → FirmPiles n w k (parted n (heapOf names) c) 0 from
   firm-peeled c law = firm-kept n w k (heapOf names) c law going-named from (g .firm-below)
 
-  pub going-next : (e : Entry) (names′ : List ℕ) (from′ : ℕ) → length (e .side) ≡ 16 → Lawful n w k (heapOf names) (cutOf e) → heapOf names′ ≡ parted n (heapOf names) (cutOf e) → length names′ ≡ 128
-      → FirmPiles n w k (parted n (heapOf names) (cutOf e)) 0 from′ → Going n w k space₀ cuts₀ names′ (entryPut space cuts e) (cuts + 1) from′
+  pub going-next : (e : Entry) (names′ : List ℕ) (from′ : ℕ) → length (e .side) ≡ 16 → Lawful n w k (heapOf names) (entryCut e) → heapOf names′ ≡ parted n (heapOf names) (entryCut e) → length names′ ≡ 128
+      → FirmPiles n w k (parted n (heapOf names) (entryCut e)) 0 from′ → Going n w k space₀ cuts₀ names′ (entryPut space cuts e) (cuts + 1) from′
   unfolding LawfulRun left
   going-next e names′ from′ wide law p long firm =
       let cs : List Cut = cutsIn cuts space in
-      let fits = going-room (cutOf e) law in
+      let fits = going-room (entryCut e) law in
       let inside : cuts < length space / entrySize = omega (arith, g .long, g .room) in
-      let grown : cutsIn (cuts + 1) (entryPut space cuts e) ≡ cs ++ cutOf e ∷ [] = cuts-put cuts space e inside wide in
-      let here : Lawful n w k (left n start cs) (cutOf e) = subst (λ (h : Heap). Lawful n w k h (cutOf e)) (g .heap) law in
+      let grown : cutsIn (cuts + 1) (entryPut space cuts e) ≡ cs ++ entryCut e ∷ [] = cuts-put cuts space e inside wide in
+      let here : Lawful n w k (left n start cs) (entryCut e) = subst (λ (h : Heap). Lawful n w k h (entryCut e)) (g .heap) law in
       record {
         some-bones = g .some-bones;
         room = g .room;
         more = omega (arith, g .more);
-        run = subst (LawfulRun n w k start) (sym grown) (run-append n w k cs (cutOf e ∷ []) start (g .run) (here, tt));
-        heap = p ∙ ap (λ (h : Heap). parted n h (cutOf e)) (g .heap) ∙ sym (left-append n w k cs (cutOf e ∷ []) start) ∙ ap (left n start) (sym grown);
+        run = subst (LawfulRun n w k start) (sym grown) (run-append n w k cs (entryCut e ∷ []) start (g .run) (here, tt));
+        heap = p ∙ ap (λ (h : Heap). parted n h (entryCut e)) (g .heap) ∙ sym (left-append n w k cs (entryCut e ∷ []) start) ∙ ap (left n start) (sym grown);
         names-long = long;
         firm-below = subst (λ (h : Heap). FirmPiles n w k h 0 from′) (sym p) firm;
         front = front-put e inside ∙ g .front;
@@ -104,15 +104,14 @@ module _ {n : ℕ} {w : Tally} {k : ℕ} {space₀ : List ℕ} {cuts₀ : ℕ} {
       front-put e inside =
           let below : cuts₀ * entrySize ≤ cuts * entrySize = omega (arith, g .more) in
           sym (take-take (cuts₀ * entrySize) (cuts * entrySize) (entryPut space cuts e) below)
-          ∙ ap (take (cuts₀ * entrySize)) (ap (take (cuts * entrySize)) (put-whole space cuts e inside) ∙ take-put space (cuts * entrySize) (entryBytes e) entrySize (omega arith))
+          ∙ ap (take (cuts₀ * entrySize)) (put-before space cuts e inside)
           ∙ take-take (cuts₀ * entrySize) (cuts * entrySize) space below
 
       rest-put : (e : Entry) → cuts < length space / entrySize → length (e .side) ≡ 16 → drop ((cuts + 1) * entrySize) (entryPut space cuts e) ≡ drop ((cuts + 1) * entrySize) space₀
       rest-put e inside wide =
           let step : (cuts + 1) * entrySize ≡ cuts * entrySize + entrySize = omega arith in
           ap (λ (m : ℕ). drop m (entryPut space cuts e)) step
-          ∙ ap (drop (cuts * entrySize + entrySize)) (put-whole space cuts e inside)
-          ∙ drop-paste space (cuts * entrySize) (entryBytes e) entrySize (omega arith) (omega (arith, length-bytes e wide))
+          ∙ put-behind space cuts e inside wide
           ∙ sym (drop-drop entrySize (cuts * entrySize) space)
           ∙ ap (drop entrySize) (g .rest)
           ∙ drop-drop entrySize (cuts * entrySize) space₀

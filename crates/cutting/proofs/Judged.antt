@@ -16,7 +16,8 @@ use Rattle.weighing.specs.Search.{Small}
 use Rattle.cutting.specs.declared.Answer.{Answer}
 use Rattle.cutting.specs.RecordRows.{recordRows}
 use Rattle.cutting.specs.Rows.{labelRow, spaceRow}
-use Rattle.cutting.specs.Names.{settled, written}
+use Rattle.meaning.specs.Room.{over, settled}
+use Rattle.cutting.specs.Names.{names}
 use Rattle.cutting.specs.Runs.{answered, Checked, Recorded, Grouped}
 use Rattle.cutting.specs.Calls.{Checking, Grouping}
 use Rattle.cutting.specs.Record.{cutsOf}
@@ -41,7 +42,7 @@ judged-checking n k good links (Refused number place) e short bytes labels label
     let stop = sym (checking-stop n k good links bytes (length labels) number place (sym e)) in
     record {
       answer = c .answer ∙ ap (λ (i : Judged). answered i (piles n (left n start (cutsOf bytes))) (finished n (pairTally links) k (left n start (cutsOf bytes)))) stop;
-      names-left = c .names-left ∙ ap (λ (i : Judged). settled i labels (written n (left n start (cutsOf bytes)) labels)) stop;
+      names-left = c .names-left ∙ ap (λ (i : Judged). settled i labels (over labels 0 (names n (left n start (cutsOf bytes))))) stop;
     }
 
 pub judged-grouping : (n k : ℕ) (good : Bool) (links : List Link) (j : Judged) → j ≡ first (tableRows n k good links) → Short links → (bytes labels labels′ space space′ : List ℕ) (r : Answer)
@@ -55,7 +56,7 @@ judged-grouping n k good links (Refused number place) e short bytes labels label
     let stop = sym (grouping-stop n k good links bytes (length labels) (length space) number place (sym e)) in
     record {
       answer = c .answer ∙ ap (λ (i : Judged). answered i (groups n (pairTally links) k) true) stop;
-      labels-left = c .labels-left ∙ ap (λ (i : Judged). settled i labels (written n (label n (pairTally links) k) labels)) stop;
+      labels-left = c .labels-left ∙ ap (λ (i : Judged). settled i labels (over labels 0 (names n (label n (pairTally links) k)))) stop;
       record-left = subst (λ (i : Judged). Recorded i n (pairTally links) k bytes space space′) stop (c .record-left);
     }
 

@@ -1,22 +1,22 @@
 -- From judged links, their table and the labels to thinning over link records: a refusal, or the links kept.
 -- Assumes nothing.
-use Prim.Native.Nat.{ℕ, _+_, _≤_, _<_, _^_}
-use mathlib.Core.Path.{_≡_, refl, sym, _∙_, ap, subst}
+use Prim.Native.Nat.{ℕ, _≤_, _<_, _^_}
+use mathlib.Core.Path.{_≡_, refl, sym, _∙_, subst}
 use mathlib.Core.Bool.{Bool, true, false}
-use mathlib.Core.List.{List, [], _∷_, _++_}
-use native.Mathlib.Nat.{zero-add}
+use mathlib.Core.List.{List, [], _∷_}
 use native.Mathlib.Omega.{arith}
 use lib.Dec.{T}
-use lib.ListN.{length, drop, replicate}
-use lib.Seq.{sets-eq}
+use lib.ListN.{length, replicate}
 use borrow.Author.Tests.{ltb-false}
 use Rattle.meaning.specs.declared.Link.{Link}
 use Rattle.meaning.specs.declared.Judged.{Judged}
 use Rattle.meaning.specs.declared.Judged.the-variants.{Accepted, Refused}
 use Rattle.meaning.specs.Judge.{first}
 use Rattle.meaning.specs.Firm.{label}
+use Rattle.meaning.specs.Room.{fitted}
+use Rattle.meaning.proofs.Room.{fitted-all}
 use Rattle.links.specs.Links.{tableRows}
-use Rattle.links.specs.Records.{keptLinks, written}
+use Rattle.links.specs.Records.{keptLinks}
 use Rattle.weighing.specs.Side.{heapOf}
 use Rattle.links.specs.Table.{held, filled}
 use Rattle.links.proofs.LinksBytes.{Short}
@@ -24,7 +24,7 @@ use Rattle.links.proofs.LinksRows.{never-both, table-counted, table-proper}
 use Rattle.cutting.proofs.Lawful.{row-accepted}
 use Rattle.cutting.specs.Rows.{linkRow, thinningRows}
 use Rattle.cutting.specs.Thin.{refused}
-use Rattle.cutting.specs.Calls.{over, keeping, ThinningRecords}
+use Rattle.cutting.specs.Calls.{keeping, ThinningRecords}
 use Rattle.cutting.proofs.Carried.{filled-alike}
 use Rattle.cutting.proofs.Keeping.{kept-most, kept-same, thins-refused, thins-accepted, thins-alike, thinning-core, thinning-stop}
 
@@ -50,13 +50,6 @@ room-accepted : (links room : ℕ) → first (linkRow links room ∷ []) ≡ Acc
 unfolding linkRow
 room-accepted links room e = ltb-false room links (row-accepted _ 14 0 [] e .0)
 
--- links written from the front on stand over the room
-written-over : (space ks : List Link) → length ks ≤ length space → written space ks ≡ over ks space
-unfolding written over
-written-over space ks h =
-    sets-eq ks space 0 (subst (λ (m : ℕ). m ≤ length space) (sym (zero-add (length ks))) h)
-    ∙ ap (λ (m : ℕ). ks ++ drop m space) (zero-add (length ks))
-
 module _ (n k : ℕ) (links : List Link) (j : Judged) (judged : j ≡ first (tableRows n k true links)) (space : List Link) (r : Judged) (rows : r ≡ first (j ∷ linkRow (length links) (length space) ∷ [])) where
   all-rows : first (thinningRows n k true links (length space)) ≡ r
   all-rows = sym (rows ∙ judged-rows n k true links j (length space) judged)
@@ -81,7 +74,7 @@ module _ (n k : ℕ) (links : List Link) (j : Judged) (judged : j ≡ first (tab
     kept-fits labels = omega (arith, kept-most labels links, table-counted n k true links table-accepted .few-links)
 
     pub records-kept : Short links → (labels : List ℕ) → ((b : ℕ) → b < n → heapOf labels b ≡ label n (held (filled j (replicate 16384 0) links)) k b)
-        → (space′ : List Link) (count : ℕ) → count ≡ length (keptLinks labels links) → space′ ≡ written space (keptLinks labels links) → ThinningRecords n k links space space′ (keeping r count)
+        → (space′ : List Link) (count : ℕ) → count ≡ length (keptLinks labels links) → space′ ≡ fitted space 0 (keptLinks labels links) → ThinningRecords n k links space space′ (keeping r count)
     unfolding keeping
     records-kept short labels are space′ count q p =
         let alike = filled-alike n k true links j judged (judged-both .0) (filled j (replicate 16384 0) links) refl short in
@@ -91,4 +84,4 @@ module _ (n k : ℕ) (links : List Link) (j : Judged) (judged : j ≡ first (tab
         (thins-alike (λ ls. ls) n _ _ alike k _ _ links space space′ _ refl
         (thins-accepted (λ ls. ls) _ n _ k links space labels space′ count (all-rows ∙ accepted)
         (kept-same n _ k labels links few are (table-proper n k true links table-accepted)) q
-        (p ∙ written-over space (keptLinks labels links) (omega (arith, kept-most labels links, room)))))
+        (p ∙ fitted-all space 0 (keptLinks labels links) (omega (arith, kept-most labels links, room)))))

@@ -9,11 +9,13 @@ use native.Mathlib.Omega.{arith}
 use lib.Dec.{eqb, ltb}
 use lib.ListN.{length, getD, take, drop, length-take, length-drop, take-append-drop}
 use borrow.Author.Tests.{lt-ltb, le-ltb}
-use lib.Seq.{paste, getD-drop, drop-drop, take-take, take-paste, drop-paste, length-paste}
+use lib.Seq.{getD-drop, drop-drop}
 use Rattle.meaning.specs.declared.Link.{Link}
 use Rattle.meaning.specs.declared.Judged.{Judged}
 use Rattle.meaning.specs.declared.Judged.the-variants.{Accepted, Refused}
 use Rattle.meaning.specs.Judge.{refuse, first}
+use Rattle.meaning.specs.Room.{over, settled}
+use Rattle.meaning.proofs.Room.{settled-new, settled-was, over-front, length-over, up-to-items, behind-items}
 use Rattle.meaning.specs.Tally.{Tally}
 use Rattle.meaning.specs.Firm.{label}
 use Rattle.meaning.specs.Heap.{Heap}
@@ -26,9 +28,9 @@ use Rattle.links.proofs.LinksRows.{Propers, first-accepted, first-refused}
 use Rattle.cutting.specs.declared.Thinned.{Thinned}
 use Rattle.cutting.specs.declared.Thinned.the-variants.{Kept, Refused as Refused·thinned}
 use Rattle.cutting.specs.Rows.{linkRow, thinningRows}
-use Rattle.cutting.specs.Names.{settled, names}
+use Rattle.cutting.specs.Names.{names}
 use Rattle.cutting.proofs.Names.{names-at}
-use Rattle.cutting.specs.Calls.{kept, linkBytes, over, keeping, Thins}
+use Rattle.cutting.specs.Calls.{kept, linkBytes, keeping, Thins}
 use Rattle.cutting.specs.Thin.{Keeps}
 use Rattle.cutting.proofs.Alike.{Alike, label-alike}
 
@@ -65,14 +67,14 @@ module _ (same : Bool) (bytes space : List ℕ) (count : ℕ) where
   keeps-not e =
       record {
         counted = sym (ap (λ (t : Bool). count + cond t 1 0) e ∙ add-zero count);
-        put = sym (ap (λ (t : Bool). cond t (paste space (count * 4) bytes 4) space) e);
+        put = sym (ap (λ (t : Bool). cond t (over space (count * 4) bytes) space) e);
       }
 
-  pub keeps-it : (space′ : List ℕ) → same ≡ true → space′ ≡ paste space (count * 4) bytes 4 → Keeps same bytes space count space′ (count + 1)
+  pub keeps-it : (space′ : List ℕ) → same ≡ true → space′ ≡ over space (count * 4) bytes → Keeps same bytes space count space′ (count + 1)
   keeps-it space′ e p =
       record {
         counted = sym (ap (λ (t : Bool). count + cond t 1 0) e);
-        put = p ∙ sym (ap (λ (t : Bool). cond t (paste space (count * 4) bytes 4) space) e);
+        put = p ∙ sym (ap (λ (t : Bool). cond t (over space (count * 4) bytes) space) e);
       }
 
 -- ---- the links kept
@@ -135,21 +137,22 @@ module _ (labels links space₀ : List ℕ) where
         four-bytes : List ℕ
         four-bytes = take 4 (drop (i * 4) links)
 
-        wide : 4 ≤ length four-bytes
+        wide : length four-bytes ≡ 4
         wide = simp (length-take, length-drop) (omega arith)
 
         fits : count * 4 + 4 ≤ length space
         fits = omega (arith, k .most, k .long)
 
-        put-front : take (count * 4 + 4) (paste space (count * 4) four-bytes 4) ≡ take (count * 4) space ++ linkBytes (linkAt links i ∷ [])
+        put-front : take (count * 4 + 4) (over space (count * 4) four-bytes) ≡ take (count * 4) space ++ linkBytes (linkAt links i ∷ [])
         put-front =
-            take-paste space (count * 4) four-bytes 4 (omega (arith, fits)) wide
-            ∙ ap (λ (x : List ℕ). take (count * 4) space ++ x)
-            (take-take 4 4 (drop (i * 4) links) (le-refl 4) ∙ link-bytes links i (omega arith) small)
+            ap (λ (m : ℕ). take (count * 4 + m) (over space (count * 4) four-bytes)) (sym wide)
+            ∙ up-to-items space (count * 4) four-bytes (omega (arith, fits))
+            ∙ ap (λ (x : List ℕ). take (count * 4) space ++ x) (link-bytes links i (omega arith) small)
 
-        put-rest : drop (count * 4 + 4) (paste space (count * 4) four-bytes 4) ≡ drop (count * 4 + 4) space₀
+        put-rest : drop (count * 4 + 4) (over space (count * 4) four-bytes) ≡ drop (count * 4 + 4) space₀
         put-rest =
-            drop-paste space (count * 4) four-bytes 4 (omega (arith, fits)) wide
+            subst (λ (m : ℕ). drop (count * 4 + m) (over space (count * 4) four-bytes) ≡ drop (count * 4 + m) space) wide
+            (behind-items space (count * 4) four-bytes (omega (arith, fits)))
             ∙ sym (drop-drop 4 (count * 4) space)
             ∙ ap (drop 4) (k .rest)
             ∙ drop-drop 4 (count * 4) space₀
@@ -157,7 +160,7 @@ module _ (labels links space₀ : List ℕ) where
         go : (t : Bool) → sameLabel labels (linkAt links i) ≡ t → Keeping space′ count′ (i + 1)
         go true e =
             let counted : count′ ≡ count + 1 = s .counted ∙ ap (λ (t : Bool). count + cond t 1 0) e in
-            let put : space′ ≡ paste space (count * 4) four-bytes 4 = s .put ∙ ap (λ (t : Bool). cond t (paste space (count * 4) four-bytes 4) space) e in
+            let put : space′ ≡ over space (count * 4) four-bytes = s .put ∙ ap (λ (t : Bool). cond t (over space (count * 4) four-bytes) space) e in
             let step : count′ * 4 ≡ count * 4 + 4 = omega (arith, counted) in
             let more = kept-it labels (linkAt links i) after next e in
             record {
@@ -170,11 +173,11 @@ module _ (labels links space₀ : List ℕ) where
                   ∙ ap (λ (x : List ℕ). x ++ linkBytes (keptLinks labels after)) (sym (ap₂ take step put ∙ put-front));
               number = omega (arith, k .number, counted, ap length more);
               rest = ap₂ drop step put ∙ put-rest ∙ ap (λ (m : ℕ). drop m space₀) (sym step);
-              long = ap length put ∙ length-paste space (count * 4) four-bytes 4 fits wide ∙ k .long;
+              long = ap length put ∙ length-over space (count * 4) four-bytes (omega (arith, fits, wide)) ∙ k .long;
             }
         go false e =
             let counted : count′ ≡ count = s .counted ∙ ap (λ (t : Bool). count + cond t 1 0) e ∙ add-zero count in
-            let put : space′ ≡ space = s .put ∙ ap (λ (t : Bool). cond t (paste space (count * 4) four-bytes 4) space) e in
+            let put : space′ ≡ space = s .put ∙ ap (λ (t : Bool). cond t (over space (count * 4) four-bytes) space) e in
             let same = kept-not labels (linkAt links i) after next e in
             record {
               place = omega arith;
@@ -187,15 +190,15 @@ module _ (labels links space₀ : List ℕ) where
 
   -- behind the last link
   pub keeping-end : (space : List ℕ) (count i : ℕ) → Keeping space count i → length links / 4 ≤ i
-      → (count ≡ length (keptLinks labels (linksOf links))) × (space ≡ over (linkBytes (keptLinks labels (linksOf links))) space₀)
-  unfolding keptLinks linkBytes over
+      → (count ≡ length (keptLinks labels (linksOf links))) × (space ≡ over space₀ 0 (linkBytes (keptLinks labels (linksOf links))))
+  unfolding keptLinks linkBytes
   keeping-end space count i k l =
       let none = linksOf-end links i l in
       let number : length (keptLinks labels (linksOf links)) ≡ count = omega (arith, k .number, ap (λ (ls : List Link). length (keptLinks labels ls)) none) in
       let bytes : linkBytes (keptLinks labels (linksOf links)) ≡ take (count * 4) space = k .bytes ∙ ap (λ (ls : List Link). take (count * 4) space ++ linkBytes (keptLinks labels ls)) none ∙ append-nil (take (count * 4) space) in
       let long : length (linkBytes (keptLinks labels (linksOf links))) ≡ count * 4 = length-linkBytes (keptLinks labels (linksOf links)) ∙ ap (λ (m : ℕ). m * 4) number in (
         sym number,
-        sym (take-append-drop (count * 4) space) ∙ ap₂ _++_ (sym bytes) (k .rest ∙ ap (λ (m : ℕ). drop m space₀) (sym long)),
+        sym (take-append-drop (count * 4) space) ∙ ap₂ _++_ (sym bytes) (k .rest ∙ ap (λ (m : ℕ). drop m space₀) (sym long)) ∙ sym (over-front space₀ _),
       )
 
 -- ---- thinning's promise
@@ -215,22 +218,22 @@ module _ (links room : ℕ) where
 
 module _ {A : Type 0} (form : List Link → List A) (rows : List Judged) (n : ℕ) (w : Tally) (k : ℕ) (links : List Link) (space : List A) where
   pub thins-refused : (number place : ℕ) → first rows ≡ Refused number place → Thins form rows n w k links space space (Refused·thinned number place)
-  unfolding keeping settled
+  unfolding keeping
   thins-refused number place e =
       record {
         answer = ap (λ (j : Judged). keeping j (length (kept n w k links))) (sym e);
-        links-left = ap (λ (j : Judged). settled j space (over (form (kept n w k links)) space)) (sym e);
+        links-left = sym (settled-was space _ e);
       }
 
-  pub thins-accepted : (labels : List ℕ) (space′ : List A) (count : ℕ) → first rows ≡ Accepted → keptLinks labels links ≡ kept n w k links → count ≡ length (keptLinks labels links) → space′ ≡ over (form (keptLinks labels links)) space
+  pub thins-accepted : (labels : List ℕ) (space′ : List A) (count : ℕ) → first rows ≡ Accepted → keptLinks labels links ≡ kept n w k links → count ≡ length (keptLinks labels links) → space′ ≡ over space 0 (form (keptLinks labels links))
       → Thins form rows n w k links space space′ (Kept count)
-  unfolding keeping settled
+  unfolding keeping
   thins-accepted labels space′ count e same q p =
       record {
         answer = ap Kept (q ∙ ap length same) ∙ ap (λ (j : Judged). keeping j (length (kept n w k links))) (sym e);
         links-left = p
-            ∙ ap (λ (ls : List Link). over (form ls) space) same
-            ∙ ap (λ (j : Judged). settled j space (over (form (kept n w k links)) space)) (sym e);
+            ∙ ap (λ (ls : List Link). over space 0 (form ls)) same
+            ∙ sym (settled-new space _ e);
       }
 
 pub thins-alike : {A : Type 0} (form : List Link → List A) (n : ℕ) (v w : Tally) → Alike n v w → (k : ℕ) (rows rows′ : List Judged) (links : List Link) (space space′ : List A) (r : Thinned)
@@ -239,7 +242,7 @@ thins-alike form n v w alike k rows rows′ links space space′ r e t =
     let same : kept n v k links ≡ kept n w k links = ap (λ (h : Heap). keptLinks (names 128 h) links) (label-alike n v w alike k) in
     record {
       answer = t .answer ∙ ap₂ (λ (j : Judged) (ls : List Link). keeping j (length ls)) e same;
-      links-left = t .links-left ∙ ap₂ (λ (j : Judged) (ls : List Link). settled j space (over (form ls) space)) e same;
+      links-left = t .links-left ∙ ap₂ (λ (j : Judged) (ls : List Link). settled j space (over space 0 (form ls))) e same;
     }
 
 module _ (n k : ℕ) (good : Bool) (links : List Link) (room : ℕ) where

@@ -1,24 +1,26 @@
--- Laws of names: written to lent room one bone after the other, as a heap, and its piles counted.
+-- Laws of names: at the front of lent room, one bone after the other; as a heap; and its piles counted.
 -- Assumes nothing.
-use Prim.Native.Nat.{ℕ, zero, suc, _+_, _≤_, _<_, zero-le, min}
+use Prim.Native.Nat.{ℕ, zero, suc, _+_, _≤_, _<_, min}
 use mathlib.Core.Path.{_≡_, refl, sym, _∙_, ap, ap₂, fun-ext}
-use mathlib.Core.Bool.{Bool, cond, not, _&&_}
+use mathlib.Core.Bool.{Bool, cond, _&&_}
 use mathlib.Core.Logic.{⊎-elim}
 use mathlib.Core.List.{List, [], _∷_, _++_, append-nil}
 use native.Mathlib.Nat.{le-refl, not-suc-le-zero}
 use native.Mathlib.Numerals.{add-one}
 use native.Mathlib.Omega.{arith}
-use lib.Dec.{T, eqb, leb, ltb, leb→le, nleb→lt, ltb→lt, nltb→le}
-use lib.ListN.{length, getD, set, drop, length-append, drop-of-length-le, List·getD-eq-default}
-use lib.Seq.{drop-cons, set-at, append-snoc, getD-at, ext-getD}
+use lib.Dec.{eqb, leb, ltb, leb→le, nleb→lt, ltb→lt, nltb→le}
+use lib.ListN.{length, getD, set, take, length-append, List·getD-eq-default}
+use lib.Seq.{take-all, take-append-le, append-snoc, getD-at, ext-getD}
 use borrow.Author.Tests.{lt-ltb}
 use Rattle.meaning.specs.Count.{sum, count}
 use Rattle.meaning.specs.Heap.{Heap, piles, stands, pile}
 use Rattle.meaning.proofs.Tests.{decide}
 use Rattle.meaning.proofs.Sums.{sum-ext, count-most}
 use Rattle.meaning.proofs.Sets.{last-or-below}
+use Rattle.meaning.specs.Room.{fitted}
+use Rattle.meaning.proofs.Room.{fitted-nil, fitted-next, fitted-most}
 use Rattle.weighing.specs.Side.{heapOf}
-use Rattle.cutting.specs.Names.{names, written}
+use Rattle.cutting.specs.Names.{names}
 
 pub length-names : (n : ℕ) (h : Heap) → length (names n h) ≡ n
 unfolding names
@@ -40,54 +42,38 @@ names-at (suc n) h rest b l =
     (λ m. ap (λ (x : List ℕ). getD x b 0) (append-snoc (names n h) (h n) rest) ∙ names-at n h (h n ∷ rest) b m)
     (last-or-below n l)
 
--- ---- names written to lent room
-
-pub written-fits : (n : ℕ) (h : Heap) (room : List ℕ) → n ≤ length room → written n h room ≡ names n h ++ drop n room
-unfolding written
-written-fits n h room l =
-    let all : min n (length room) ≡ n = omega arith in
-    ap (λ (m : ℕ). names m h ++ drop n room) all
-
-pub written-same : (n : ℕ) (g h : Heap) (room : List ℕ) → ((b : ℕ) → b < n → g b ≡ h b) → written n g room ≡ written n h room
-unfolding written
-written-same n g h room e =
-    ap (λ (x : List ℕ). x ++ drop n room) (names-same (min n (length room)) g h (λ b l. e b (omega arith)))
-
--- as many as the room takes
-pub written-most : (n : ℕ) (h : Heap) (room : List ℕ) → written (min n (length room)) h room ≡ written n h room
-unfolding written
-written-most n h room =
-    ap₂ (λ (m : ℕ) (rest : List ℕ). names m h ++ rest) (omega arith) (⊎-elim fits short (decide (leb n (length room))))
-  where
-    fits : T (leb n (length room)) → drop (min n (length room)) room ≡ drop n room
-    fits t =
-        let l = leb→le n (length room) t in
-        let all : min n (length room) ≡ n = omega arith in
-        ap (λ (m : ℕ). drop m room) all
-
-    short : T (not (leb n (length room))) → drop (min n (length room)) room ≡ drop n room
-    short t =
-        let l = nleb→lt n (length room) t in
-        drop-of-length-le room {i = min n (length room)} (omega arith) ∙ sym (drop-of-length-le room {i = n} (omega arith))
-
-pub written-none : (h : Heap) (room : List ℕ) → room ≡ written 0 h room
+pub names-next : (i : ℕ) (h : Heap) → names (i + 1) h ≡ names i h ++ h i ∷ []
 unfolding names
-written-none h room = sym (written-fits 0 h room zero-le)
+names-next i h = ap (λ (m : ℕ). names m h) (add-one i)
+
+names-take : (k n : ℕ) (h : Heap) → k ≤ n → take k (names n h) ≡ names k h
+unfolding names
+names-take zero zero h l = refl
+names-take (suc k) zero h l = absurd (not-suc-le-zero l)
+names-take k (suc n) h l =
+    ⊎-elim
+    (λ t. take-append-le k (names n h) (h n ∷ []) (omega (arith, leb→le k n t, length-names n h)) ∙ names-take k n h (leb→le k n t))
+    (λ t. let e : suc n ≡ k = omega (arith, nleb→lt k n t) in
+    take-all k (names (suc n) h) (omega (arith, length-names (suc n) h)) ∙ ap (λ (m : ℕ). names m h) e)
+    (decide (leb k n))
+
+-- ---- names at the front of lent room
+
+pub fitted-none : (h : Heap) (room : List ℕ) → room ≡ fitted room 0 (names 0 h)
+unfolding names
+fitted-none h room = sym (fitted-nil room 0)
 
 -- a turn of the loop that writes
-pub written-next : (i : ℕ) (h : Heap) (room : List ℕ) → i < length room → set (written i h room) i (h i) ≡ written (i + 1) h room
-unfolding names
-written-next i h room l =
-    ap (λ (x : List ℕ). set x i (h i)) (written-fits i h room (omega arith) ∙ ap (λ (x : List ℕ). names i h ++ x) (drop-cons room i 0 l))
-    ∙ set-at (names i h) (getD room i 0) (drop (suc i) room) (h i) i (length-names i h)
-    ∙ sym (append-snoc (names i h) (h i) (drop (suc i) room))
-    ∙ ap (λ (m : ℕ). names m h ++ drop m room) (sym (add-one i))
-    ∙ sym (written-fits (i + 1) h room (omega arith))
+pub fitted-name : (i : ℕ) (h : Heap) (room : List ℕ) → set (fitted room 0 (names i h)) i (h i) ≡ fitted room 0 (names (i + 1) h)
+fitted-name i h room =
+    let e : i ≡ 0 + length (names i h) = omega (arith, length-names i h) in
+    ap (λ (m : ℕ). set (fitted room 0 (names i h)) m (h i)) e ∙ fitted-next room 0 (names i h) (h i) ∙ ap (fitted room 0) (sym (names-next i h))
 
--- room that is all written over
-pub written-all : (h : Heap) (room : List ℕ) (n : ℕ) → length room ≡ n → written n h room ≡ names n h
-written-all h room n e =
-    written-fits n h room (omega arith) ∙ ap (λ (x : List ℕ). names n h ++ x) (drop-of-length-le room {i = n} (omega arith)) ∙ append-nil (names n h)
+-- as many as the room takes
+pub fitted-names : (n : ℕ) (h : Heap) (room : List ℕ) → fitted room 0 (names (min n (length room)) h) ≡ fitted room 0 (names n h)
+fitted-names n h room =
+    ap (fitted room 0) (sym (names-take (min n (length room)) n h (omega arith)))
+    ∙ fitted-most room 0 (names n h) (min n (length room)) (omega (arith, length-names n h))
 
 -- ---- names as a heap
 

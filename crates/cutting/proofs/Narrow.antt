@@ -13,7 +13,7 @@ use Rattle.meaning.specs.Heap.{Cut}
 use Rattle.meaning.proofs.Tests.{decide}
 use Rattle.weighing.specs.Side.{sideOf}
 use Rattle.cutting.specs.declared.record.Entry.{Entry}
-use Rattle.cutting.specs.Record.{entrySize, entryOf, entryAt, cutOf, cutsIn}
+use Rattle.cutting.specs.Record.{entrySize, entryOf, entryAt, entryCut, cutsIn}
 
 abbrev pub Narrow : Cut → Type 0
 Narrow c = (b : ℕ) → T (c .side b) → b < 128
@@ -35,15 +35,15 @@ Narrows [] = Unit {0}
 Narrows (c ∷ cs) = Narrow c × Narrows cs
 
 pub narrow-cuts : (m : ℕ) (bytes : List ℕ) → Narrows (cutsIn m bytes)
-unfolding cutsIn cutOf entryOf
+unfolding cutsIn entryCut entryOf
 narrow-cuts zero bytes = tt
 narrow-cuts (suc m) bytes = (narrow-side (take 16 (drop 5 bytes)) (simp length-take (omega arith)), narrow-cuts m (drop entrySize bytes))
 
-pub narrow-entry : (e : Entry) → length (e .side) ≤ 16 → Narrow (cutOf e)
-unfolding cutOf
+pub narrow-entry : (e : Entry) → length (e .side) ≤ 16 → Narrow (entryCut e)
+unfolding entryCut
 narrow-entry e short = narrow-side (e .side) short
 
-pub narrow-at : (bytes : List ℕ) (i : ℕ) {e : Entry} → e ≡ entryAt bytes i → Narrow (cutOf e)
+pub narrow-at : (bytes : List ℕ) (i : ℕ) {e : Entry} → e ≡ entryAt bytes i → Narrow (entryCut e)
 unfolding entryAt entryOf
 narrow-at bytes i {e} q =
     narrow-entry e (subst (λ (x : Entry). length (x .side) ≤ 16) (sym q) (go (ltb i (length bytes / entrySize))))

@@ -16,7 +16,9 @@ use Rattle.meaning.proofs.Tests.{decide, is-true, is-false}
 use Rattle.meaning.proofs.Sets.{some-intro, some-elim, least-is}
 use Rattle.weighing.specs.Side.{heapOf}
 use Rattle.cutting.specs.Record.{entrySize, cutsOf}
-use Rattle.cutting.specs.Names.{settled, names}
+use Rattle.meaning.specs.Room.{settled}
+use Rattle.meaning.proofs.Room.{settled-new}
+use Rattle.cutting.specs.Names.{names}
 use Rattle.cutting.proofs.Narrow.{Narrow, Narrows, narrow-cuts}
 use Rattle.cutting.proofs.Names.{length-names, Within, heap-within, heap-of-names}
 
@@ -67,11 +69,11 @@ parted-names n old c few long narrow e =
 pub judged-names : (n : ℕ) (bytes was : List ℕ) {r : Judged} {new : List ℕ} → n ≤ 128 → r ≡ Accepted
     → new ≡ settled r was (names 128 (left (min n 128) start (cutsOf bytes)))
     → (heapOf new ≡ left n start (cutsOf bytes)) × (length new ≡ 128)
-unfolding settled cutsOf start
+unfolding cutsOf start
 judged-names n bytes was few accepted e =
     let all : min n 128 ≡ n = omega arith in
     let cs : List Cut = cutsOf bytes in
-    let new = e ∙ ap (λ (j : Judged). settled j was (names 128 (left (min n 128) start cs))) accepted in (
+    let new = e ∙ settled-new was (names 128 (left (min n 128) start cs)) accepted in (
       ap heapOf new
           ∙ heap-of-names 128 (left (min n 128) start cs) (left-within (min n 128) cs start (narrow-cuts (length bytes / entrySize) bytes) (λ b l. refl))
           ∙ ap (λ (m : ℕ). left m start cs) all,

@@ -39,11 +39,9 @@ use Rattle.meaning.specs.declared.Link.{Link}
 use Rattle.meaning.specs.declared.Judged.{Judged}
 use Rattle.meaning.specs.declared.Judged.the-variants.{Accepted}
 use Rattle.meaning.specs.Judge.{first}
-use Rattle.meaning.specs.Firm.{label}
-use Rattle.links.specs.Records.{keptLinks, written}
+use Rattle.meaning.specs.Room.{fitted}
+use Rattle.links.specs.Records.{keptLinks}
 use Rattle.links.specs.Links.{countRows}
-use Rattle.weighing.specs.Side.{heapOf}
-use Rattle.links.specs.Table.{held}
 use Rattle.weighing.specs.Search.{Small}
 use Rattle.links.proofs.RecordsLink.{R, J, told, IsJudged, told-so, made-judged}
 use Rattle.links.proofs.RecordsCalls.{calls-to}
@@ -51,7 +49,7 @@ use Rattle.links.proofs.RecordsRead.{Own}
 use Rattle.links.proofs.RecordsTable.{Table, OwnTable}
 use Rattle.links.proofs.records.keep_links as keeps
 use Rattle.links.proofs.records.keep_links.Symbol.{name as #keep-links}
-use Rattle.cutting.specs.Rows.{linkRow}
+use Rattle.cutting.specs.Above.{LabelledAbove}
 use Rattle.cutting.proofs.RecordsLabels.{Labels}
 use Rattle.cutting.proofs.records.label_judged as labels
 use Rattle.cutting.proofs.records.label_judged.Symbol.{name as #label-judged}
@@ -59,11 +57,6 @@ use Rattle.cutting.proofs.records.label_judged.Symbol.{name as #label-j
 -- what lies at (b, 0) and is lent under the name γ
 abbrev lent : ℕ → GName → List ℕ → RefT (List ℕ)
 lent b γ t = record { ptr = (b, 0); name = γ; now = t }
-
--- what is promised of the labels: the first refusal of what was judged and of row 14; and where there is none, the labels of the bones
-abbrev pub Labelled : ℕ → ℕ → Judged → ℕ → ℕ → List ℕ → Judged → List ℕ → Type 0
-Labelled n k j count room t r ls =
-    (r ≡ first (j ∷ linkRow count room ∷ [])) × (r ≡ Accepted → (b : ℕ) → b < n → heapOf ls b ≡ label n (held t) k b)
 
 -- what a `&mut [Link]` owns
 abbrev pub OwnSpace : Lft → RefT (List Link) → Fml
@@ -97,7 +90,7 @@ module _ {M : Type 1} {𝓤 : URA M} {H : Heap 𝓤} {A : Atoms 𝓤} {K : Type 
       → ((α β : ℕ) (γ δ : GName)
       → Opds K W (raw (LabelJudged 𝓤 H A mem run .pre (to-label 𝓤 H A mem run α γ β δ j n k count room b t c ls)) ∷ ‵ (flent (β ∷ []) (Held (in-memory Labels) c 0 δ)) ∷ ‵ (flent (α ∷ []) (Held (in-memory Table) b 0 γ)) ∷ Γ) E xs
       (told j ∷ vptr b 0 ∷ vint w64 n ∷ vint w64 k ∷ vint w64 count ∷ vint w64 room ∷ vptr c 0 ∷ []))
-      → ((r : Judged) (t′ ls′ : List ℕ) → Labelled n k j count room t r ls′ → IsJudged r → Seq K W (‵ (partAt Table fullShare t′ b 0) ∷ ‵ (partAt Labels fullShare ls′ c 0) ∷ Γ) (lands C Λ E d (told r) rest post))
+      → ((r : Judged) (t′ ls′ : List ℕ) → LabelledAbove j n t k count room ls′ r → IsJudged r → Seq K W (‵ (partAt Table fullShare t′ b 0) ∷ ‵ (partAt Labels fullShare ls′ c 0) ∷ Γ) (lands C Λ E d (told r) rest post))
       → Seq K W (‵ (partAt Table fullShare t b 0) ∷ ‵ (partAt Labels fullShare ls c 0) ∷ Γ) (runs C Λ E (seq (call #label-judged xs d) rest) post)
   calls-label tk mem run fm known j n k count room b t c ls isj gn gk gc gr fits os next =
       lft-new tk tt (λ α. move tk (1 ∷ []) $
@@ -113,7 +106,7 @@ module _ {M : Type 1} {𝓤 : URA M} {H : Heap 𝓤} {A : Atoms 𝓤} {K : Type 
       owned ! u64 (Is u64) (uint-makes 𝓤 H A W w64) k (vint w64 k ∷ []) (refl, gk) $ fjoin ! $ owned ! u64 (Is u64) (uint-makes 𝓤 H A W w64) n (vint w64 n ∷ []) (refl, gn) $ fjoin ! $
       move ! (1 ∷ 0 ∷ []) $ fjoin ! $
       owned ! J (Is J) (made-judged 𝓤 H A W) j (told j ∷ []) isj $ fjoin ! $ done !) $
-      calls-to tk fm labels.ended (labels.clauses 𝓤 H A mem run) known (to-label 𝓤 H A mem run α γ β δ j n k count room b t c ls) (λ r ws. Labelled n k j count room t r (ws .1 .1 .1 .1 .1 .1 .0)) (λ r ws. id⊢ 𝓤 _) (os α β γ δ) (λ v r ws e.
+      calls-to tk fm labels.ended (labels.clauses 𝓤 H A mem run) known (to-label 𝓤 H A mem run α γ β δ j n k count room b t c ls) (λ r ws. LabelledAbove j n t k count room (ws .1 .1 .1 .1 .1 .1 .0) r) (λ r ws. id⊢ 𝓤 _) (os α β γ δ) (λ v r ws e.
       -- [the result; the tokens; the last values; the lenders' parts of labels and table; ..]
       peeks tk J (Is J) (shows 𝓤 H A J) r (v ∷ []) (λ is. drop tk $ use1 W (‵ (flft (α ∷ []) fullShare) ⊛ ‵ (flft (β ∷ []) fullShare) ⊛ ‵ ftrue) (id⊢ 𝓤 _) $ split3 tk $ lft-end tk tt $
       move tk (1 ∷ []) $ lft-end tk tt $ move tk (2 ∷ []) $ drop tk $
@@ -129,7 +122,7 @@ module _ {M : Type 1} {𝓤 : URA M} {H : Heap 𝓤} {A : Atoms 𝓤} {K : Type 
       → {κ κ′ : Lft} {q q′ : Share} (x : RefT (List Link)) (c : ℕ) (ls : List ℕ) (z : RefT (List Link))
       → ((α : ℕ) (γ : GName) → Opds K W (raw (KeepLinks 𝓤 H A mem run .pre (to-keep 𝓤 H A mem run κ q α γ κ′ q′ x c ls z)) ∷ ‵ (Own κ x) ∷ ‵ (flent (α ∷ []) (partAt Labels fullShare ls c 0)) ∷ Γ) E xs
       (sliceVal (x .ptr) (length (x .now)) ∷ vptr c 0 ∷ sliceVal (z .ptr) (length (z .now)) ∷ []))
-      → ((count : ℕ) (zs : List Link) → (count ≡ length (keptLinks ls (x .now))) × (zs ≡ written (z .now) (keptLinks ls (x .now))) → count < 2 ^ 64 → length zs ≡ length (z .now)
+      → ((count : ℕ) (zs : List Link) → (count ≡ length (keptLinks ls (x .now))) × (zs ≡ fitted (z .now) 0 (keptLinks ls (x .now))) → count < 2 ^ 64 → length zs ≡ length (z .now)
       → Seq K W (‵ (Own κ x) ∷ ‵ (flft κ q) ∷ ‵ (partAt Labels fullShare ls c 0) ∷ ‵ (finally R (z .name) zs) ∷ ‵ (flft κ′ q′) ∷ Γ) (lands C Λ E d (vint w64 count) rest post))
       → Seq K W (‵ (Own κ x) ∷ ‵ (flft κ q) ∷ ‵ (partAt Labels fullShare ls c 0) ∷ ‵ (OwnSpace κ′ z) ∷ ‵ (flft κ′ q′) ∷ Γ) (runs C Λ E (seq (call #keep-links xs d) rest) post)
   calls-keep tk mem run fm known {κ} {κ′} {q} {q′} x c ls z os next =
@@ -141,7 +134,7 @@ module _ {M : Type 1} {𝓤 : URA M} {H : Heap 𝓤} {A : Atoms 𝓤} {K : Type 
       (qed W (‵ (Own κ x) ∷ ‵ (flft κ q) ∷ ‵ (ShrRef (named 0) (α ∷ []) Labels .own (lent c γ ls) (vptr c 0 ∷ [])) ∷ ‵ (flft (α ∷ []) fullShare) ∷ ‵ (OwnSpace κ′ z) ∷ ‵ (flft κ′ q′) ∷ []) ∵
       nothing ! $ move ! (6 ∷ 0 ∷ []) $ join ! $ move ! (4 ∷ 0 ∷ []) $ join ! $ move ! (2 ∷ 0 ∷ []) $ join ! $
       nothing ! $ move ! (4 ∷ 0 ∷ []) $ fjoin ! $ move ! (3 ∷ 0 ∷ []) $ fjoin ! $ move ! (2 ∷ 0 ∷ []) $ fjoin ! $ move ! (1 ∷ 0 ∷ []) $ join ! $ frame ! $ done !) $
-      calls-to tk fm keeps.ended (keeps.clauses 𝓤 H A mem run) known (to-keep 𝓤 H A mem run κ q α γ κ′ q′ x c ls z) (λ r ws. (r ≡ length (keptLinks ls (x .now))) × (ws .1 .1 .0 ≡ written (z .now) (keptLinks ls (x .now)))) (λ r ws. id⊢ 𝓤 _) (os α γ) (λ v r ws e.
+      calls-to tk fm keeps.ended (keeps.clauses 𝓤 H A mem run) known (to-keep 𝓤 H A mem run κ q α γ κ′ q′ x c ls z) (λ r ws. (r ≡ length (keptLinks ls (x .now))) × (ws .1 .1 .0 ≡ fitted (z .now) 0 (keptLinks ls (x .now)))) (λ r ws. id⊢ 𝓤 _) (os α γ) (λ v r ws e.
       -- [the result; the tokens; the last values; what the links own; the lender's part; ..]
       peeks tk usize (Is usize) (shows 𝓤 H A usize) r (v ∷ []) (λ is. drop tk $ use1 W (‵ (flft κ q) ⊛ ‵ (flft (α ∷ []) fullShare) ⊛ ‵ (flft κ′ q′) ⊛ ‵ ftrue) (id⊢ 𝓤 _) $ split tk $
       move tk (1 ∷ []) $ split3 tk $ lft-end tk tt $

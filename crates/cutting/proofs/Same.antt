@@ -9,13 +9,13 @@ use lib.Seq.{take-add, take-all}
 use Rattle.meaning.specs.Bytes.{Bytes}
 use Rattle.meaning.specs.Heap.{Cut}
 use Rattle.meaning.proofs.Bytes.{bytes-take, bytes-drop}
-use Rattle.cutting.specs.Record.{entrySize, entryOf, entryBytes, cutOf, cutsIn, cutsOf}
+use Rattle.cutting.specs.Record.{entrySize, entryOf, entryBytes, entryCut, cutsIn, cutsOf}
 use Rattle.weighing.proofs.SideBytes.{sides-same}
 use Rattle.cutting.proofs.Entries.{bytes-entry}
 use Rattle.cutting.proofs.Cuts.{length-cuts}
 
-entry-same : (a b : List ℕ) → entrySize ≤ length a → entrySize ≤ length b → Bytes a → Bytes b → cutOf (entryOf a) ≡ cutOf (entryOf b) → take entrySize a ≡ take entrySize b
-unfolding cutOf entryOf
+entry-same : (a b : List ℕ) → entrySize ≤ length a → entrySize ≤ length b → Bytes a → Bytes b → entryCut (entryOf a) ≡ entryCut (entryOf b) → take entrySize a ≡ take entrySize b
+unfolding entryCut entryOf
 entry-same a b long long′ bytes bytes′ e =
     sym (bytes-entry a long bytes) ∙ ap entryBytes same ∙ bytes-entry b long′ bytes′
   where
@@ -31,7 +31,7 @@ cuts-same : (m : ℕ) (a b : List ℕ) → m * entrySize ≤ length a → m * en
 unfolding cutsIn
 cuts-same zero a b long long′ bytes bytes′ e = refl
 cuts-same (suc m) a b long long′ bytes bytes′ e =
-    let one : cutOf (entryOf a) ≡ cutOf (entryOf b) = cc in
+    let one : entryCut (entryOf a) ≡ entryCut (entryOf b) = cc in
     let others : cutsIn m (drop entrySize a) ≡ cutsIn m (drop entrySize b) = cc in
     let size : suc m * entrySize ≡ entrySize + m * entrySize = omega arith in
     rw (size, take-add, take-add)

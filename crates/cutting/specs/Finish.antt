@@ -8,7 +8,7 @@ use Rattle.meaning.specs.Tally.{Tally}
 use Rattle.meaning.specs.Heap.{start, Lawful, LawfulRun, parted, left, finished}
 use Rattle.weighing.specs.Side.{heapOf}
 use Rattle.weighing.specs.declared.search.Split.{Split}
-use Rattle.weighing.specs.Search.{FirmPiles, cutOf as splitCut}
+use Rattle.weighing.specs.Search.{FirmPiles, cutOf}
 use Rattle.cutting.specs.Record.{entrySize, cutsIn}
 
 -- the first cuts of the space are a lawful run that leaves the heap that the names mean; and there is room for all that may come
@@ -46,8 +46,8 @@ pub record Going (n : ℕ) (w : Tally) (k : ℕ) (space₀ : List ℕ) (cuts₀ 
 
 -- one cut more: where it is lawful, the run goes on, with whatever piles are firm then
 pub record Extended (n : ℕ) (names space : List ℕ) (cuts : ℕ) (split : Split) (names′ space′ : List ℕ) : Type 0 where
-  pub on : (w : Tally) (k : ℕ) (space₀ : List ℕ) (cuts₀ from from′ : ℕ) → Going n w k space₀ cuts₀ names space cuts from → Lawful n w k (heapOf names) (splitCut split)
-      → FirmPiles n w k (parted n (heapOf names) (splitCut split)) 0 from′ → Going n w k space₀ cuts₀ names′ space′ (cuts + 1) from′
+  pub on : (w : Tally) (k : ℕ) (space₀ : List ℕ) (cuts₀ from from′ : ℕ) → Going n w k space₀ cuts₀ names space cuts from → Lawful n w k (heapOf names) (cutOf split)
+      → FirmPiles n w k (parted n (heapOf names) (cutOf split)) 0 from′ → Going n w k space₀ cuts₀ names′ space′ (cuts + 1) from′
 
 -- up to m cuts more, each of which had room
 pub record Peeled (n : ℕ) (w : Tally) (k : ℕ) (names space : List ℕ) (cuts : ℕ) (names′ space′ : List ℕ) (cuts′ m : ℕ) : Type 0 where

@@ -11,3 +11,4 @@ pub mod Finish
 pub mod Runs
 pub mod Calls
 pub mod Thin
+pub mod Above

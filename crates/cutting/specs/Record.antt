@@ -4,7 +4,7 @@ use mathlib.Core.Bool.{cond}
 use mathlib.Core.List.{List, [], _∷_, _++_}
 use lib.Dec.{ltb}
 use lib.ListN.{length, getD, take, drop, replicate}
-use lib.Seq.{paste}
+use Rattle.meaning.specs.Room.{over}
 use Rattle.meaning.specs.Heap.{Cut}
 use Rattle.weighing.specs.Side.{sideOf}
 use Rattle.cutting.specs.declared.record.Entry.{Entry}
@@ -37,16 +37,16 @@ entryAt bytes i =
 -- a run of bytes once entry i was written to it, where it has room for that whole entry
 unfoldable pub entryPut : List ℕ → ℕ → Entry → List ℕ
 entryPut bytes i e =
-    cond (ltb i (length bytes / entrySize)) (paste bytes (i * entrySize) (entryBytes e) entrySize) bytes
+    cond (ltb i (length bytes / entrySize)) (over bytes (i * entrySize) (entryBytes e)) bytes
 
 -- the cut that an entry states
-unfoldable pub cutOf : Entry → Cut
-cutOf e = record { name = e .pile; weighs = e .weight; side = sideOf (e .side) }
+unfoldable pub entryCut : Entry → Cut
+entryCut e = record { name = e .pile; weighs = e .weight; side = sideOf (e .side) }
 
 -- the cuts that the first m entries of a run of bytes state; and all of its whole entries
 unfoldable pub cutsIn : ℕ → List ℕ → List Cut
 cutsIn zero bytes = []
-cutsIn (suc m) bytes = cutOf (entryOf bytes) ∷ cutsIn m (drop entrySize bytes)
+cutsIn (suc m) bytes = entryCut (entryOf bytes) ∷ cutsIn m (drop entrySize bytes)
 
 unfoldable pub cutsOf : List ℕ → List Cut
 cutsOf bytes = cutsIn (length bytes / entrySize) bytes

@@ -8,13 +8,14 @@ use lib.ListN.{length, take, drop}
 use Rattle.meaning.specs.declared.Judged.{Judged}
 use Rattle.meaning.specs.declared.Judged.the-variants.{Accepted, Refused}
 use Rattle.meaning.specs.Judge.{first}
+use Rattle.meaning.specs.Room.{over, settled}
 use Rattle.meaning.specs.Tally.{Tally}
 use Rattle.meaning.specs.Firm.{label, groups}
 use Rattle.meaning.specs.Heap.{Heap, start, piles, LawfulRun, left, finished}
 use Rattle.cutting.specs.declared.Answer.{Answer}
 use Rattle.cutting.specs.declared.Answer.the-variants.{Gave, Refused as Refused·answer}
 use Rattle.cutting.specs.Record.{entrySize, cutsOf}
-use Rattle.cutting.specs.Names.{settled, written}
+use Rattle.cutting.specs.Names.{names}
 
 -- an answer: the refusal, or a number and whether the run is finished
 unfoldable pub answered : Judged → ℕ → Bool → Answer
@@ -28,7 +29,7 @@ namesLeft n bytes = left n start (cutsOf bytes)
 -- checking: the piles that the record leaves. `rows` is what is tried, and w the tally that the links make
 pub record Checked (rows : List Judged) (n : ℕ) (w : Tally) (k : ℕ) (bytes labels labels′ : List ℕ) (r : Answer) : Type 0 where
   pub answer : r ≡ answered (first rows) (piles n (namesLeft n bytes)) (finished n w k (namesLeft n bytes))
-  pub names-left : labels′ ≡ settled (first rows) labels (written n (namesLeft n bytes) labels)
+  pub names-left : labels′ ≡ settled (first rows) labels (over labels 0 (names n (namesLeft n bytes)))
 
 -- grouping's record: the given entries, then its own, a lawful run and finished; the rest stays
 pub record Continued (n : ℕ) (w : Tally) (k : ℕ) (bytes space space′ : List ℕ) : Type 0 where
@@ -44,5 +45,5 @@ Recorded (Refused number place) n w k bytes space space′ = space′ ≡ space
 -- grouping: the groups, their labels, and the record
 pub record Grouped (rows : List Judged) (n : ℕ) (w : Tally) (k : ℕ) (bytes labels labels′ space space′ : List ℕ) (r : Answer) : Type 0 where
   pub answer : r ≡ answered (first rows) (groups n w k) true
-  pub labels-left : labels′ ≡ settled (first rows) labels (written n (label n w k) labels)
+  pub labels-left : labels′ ≡ settled (first rows) labels (over labels 0 (names n (label n w k)))
   pub record-left : Recorded (first rows) n w k bytes space space′

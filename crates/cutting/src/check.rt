@@ -9,19 +9,16 @@ use meaning::Judged;
 use weighing::search::search;
 ghost use mathlib.Core.Path.{_≡_};
 ghost use mathlib.Core.Bool.{true};
-ghost use mathlib.Core.List.{_∷_, _++_};
 ghost use Prim.Native.Nat.{_≤_};
-ghost use lib.ListN.{length};
 ghost use Rattle.meaning.specs.Heap.{piles, finished as finishedRun};
-ghost use Rattle.links.specs.Links.{whole, linksOf, countRows};
+ghost use Rattle.meaning.specs.Room.{fitted};
+ghost use Rattle.links.specs.Links.{countRows};
 ghost use Rattle.weighing.specs.Side.{heapOf};
 ghost use Rattle.links.specs.Table.{held};
 ghost use Rattle.weighing.specs.Search.{Small};
-ghost use Rattle.cutting.specs.RecordRows.{recordRows};
-ghost use Rattle.cutting.specs.Names.{written};
-ghost use Rattle.cutting.specs.Rows.{labelRow};
-ghost use Rattle.cutting.specs.Runs.{Checked};
-ghost use Rattle.cutting.specs.Calls.{Checking};
+ghost use Rattle.cutting.specs.Names.{names as namesOf};
+ghost use Rattle.cutting.specs.Calls.{CheckingBytes};
+ghost use Rattle.cutting.specs.Above.{CheckedAbove};
 
 // The names are written; their piles are counted; and they are searched, which tells whether the run that left them is finished.
 fn tell_piles(
@@ -33,7 +30,7 @@ fn tell_piles(
 ) -> Answer
     requires { ⌜ (n ≤ 128) × Small n (now table) ⌝ }
     ensures { λ r. ⌜ r ≡ Answer.Gave (piles n (heapOf (now (names .entry)))) (finishedRun n (held (now (table .entry))) k (heapOf (now (names .entry)))) ⌝ }
-    ensures { λ _. ⌜ now (labels .exit) ≡ written n (heapOf (now (names .entry))) (now (labels .entry)) ⌝ }
+    ensures { λ _. ⌜ now (labels .exit) ≡ fitted (now (labels .entry)) 0 (namesOf n (heapOf (now (names .entry)))) ⌝ }
 {
     let split = search(table, names, n, k, 0);
     let light = split.light;
@@ -53,7 +50,7 @@ pub(crate) fn check_table(
     labels: &mut [u8],
 ) -> Answer
     requires { ⌜ Small n (now table) ⌝ }
-    ensures { λ r. ⌜ Checked (countRows n k true 0 ++ labelRow n (length (now (labels .entry))) ∷ recordRows n (held (now (table .entry))) k (now (entries .entry))) n (held (now (table .entry))) k (now (entries .entry)) (now (labels .entry)) (now (labels .exit)) r ⌝ }
+    ensures { λ r. ⌜ CheckedAbove (countRows n k true 0) n (now (table .entry)) k (now (entries .entry)) (now (labels .entry)) (now (labels .exit)) r ⌝ }
 {
     match judge_counts(n, k, true, 0) {
         Judged::Accepted => {}
@@ -76,7 +73,7 @@ pub(crate) fn check_table(
 // Checks a record: gives the number of piles that it leaves and whether it is finished, and writes each bone's pile name to the label
 // space; or the first refusal, which leaves the label space as it was. Links are lent as bytes, four a link.
 pub fn checking(n: u64, k: u64, links: &[u8], record: &[u8], labels: &mut [u8]) -> Answer
-    ensures { λ r. ⌜ Checking n k (whole (now (links .entry))) (linksOf (now (links .entry))) (now («record» .entry)) (now (labels .entry)) (now (labels .exit)) r ⌝ }
+    ensures { λ r. ⌜ CheckingBytes n k (now (links .entry)) (now («record» .entry)) (now (labels .entry)) (now (labels .exit)) r ⌝ }
 {
     let mut table = [0u32; 16384];
     match fill(n, k, links, &mut table) {

@@ -13,14 +13,14 @@ ghost use mathlib.Core.Path.{_≡_};
 ghost use Prim.Native.Nat.{_<_, _≤_, _^_};
 ghost use lib.ListN.{length};
 ghost use Rattle.links.specs.Table.{held};
-ghost use Rattle.weighing.specs.Search.{Small, cutOf as splitCut};
-ghost use Rattle.cutting.specs.Record.{cutOf};
+ghost use Rattle.weighing.specs.Search.{Small, cutOf};
+ghost use Rattle.cutting.specs.Record.{entryCut};
 ghost use Rattle.cutting.specs.Finish.{Begun, Ended, Extended, Peeled};
 
 // The entry that states a split.
 fn entry_of(split: Split) -> Entry
     requires { ⌜ split .weight < 2 ^ 32 ⌝ }
-    ensures { λ r. ⌜ (cutOf r ≡ splitCut split) × (length (r .side) ≡ 16) ⌝ }
+    ensures { λ r. ⌜ (entryCut r ≡ cutOf split) × (length (r .side) ≡ 16) ⌝ }
 {
     let side = split.side;
     Entry {

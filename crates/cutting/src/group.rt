@@ -11,23 +11,23 @@ use links::table::fill;
 use meaning::Judged;
 ghost use mathlib.Core.Path.{_≡_};
 ghost use mathlib.Core.Bool.{true};
-ghost use mathlib.Core.List.{_∷_, _++_};
 ghost use Prim.Native.Nat.{_*_, _-_, _≤_, _<_};
 ghost use lib.ListN.{length};
 ghost use Rattle.meaning.specs.declared.Judged.the-variants.{Accepted};
 ghost use Rattle.meaning.specs.Judge.{first};
 ghost use Rattle.meaning.specs.Firm.{label, groups};
 ghost use Rattle.meaning.specs.Heap.{start, left};
-ghost use Rattle.links.specs.Links.{whole, linksOf, countRows};
+ghost use Rattle.meaning.specs.Room.{fitted};
+ghost use Rattle.links.specs.Links.{countRows};
 ghost use Rattle.weighing.specs.Side.{heapOf};
 ghost use Rattle.links.specs.Table.{held};
 ghost use Rattle.weighing.specs.Search.{Small};
 ghost use Rattle.cutting.specs.Record.{entrySize, cutsOf};
 ghost use Rattle.cutting.specs.RecordRows.{recordRows};
-ghost use Rattle.cutting.specs.Names.{written};
-ghost use Rattle.cutting.specs.Rows.{labelRow, spaceRow};
-ghost use Rattle.cutting.specs.Runs.{Continued, Grouped};
-ghost use Rattle.cutting.specs.Calls.{Grouping};
+ghost use Rattle.cutting.specs.Names.{names as namesOf};
+ghost use Rattle.cutting.specs.Runs.{Continued};
+ghost use Rattle.cutting.specs.Calls.{GroupingBytes};
+ghost use Rattle.cutting.specs.Above.{GroupedAbove};
 
 // An accepted record is put into the record space and finished; the labels are written, and the groups counted.
 fn complete(
@@ -43,7 +43,7 @@ fn complete(
     requires { ⌜ Small n (now table) ⌝ }
     requires { ⌜ (first (recordRows n (held (now table)) k (now entries)) ≡ Accepted) × (heapOf (now names) ≡ left n start (cutsOf (now entries))) × (length (now names) ≡ 128) ⌝ }
     ensures { λ r. ⌜ r ≡ Answer.Gave (groups n (held (now (table .entry))) k) true ⌝ }
-    ensures { λ _. ⌜ now (labels .exit) ≡ written n (label n (held (now (table .entry))) k) (now (labels .entry)) ⌝ }
+    ensures { λ _. ⌜ now (labels .exit) ≡ fitted (now (labels .entry)) 0 (namesOf n (label n (held (now (table .entry))) k)) ⌝ }
     ensures { λ _. ⌜ Continued n (held (now (table .entry))) k (now (entries .entry)) (now (space .entry)) (now (space .exit)) ⌝ }
 {
     copy(entries, space, 0);
@@ -65,7 +65,7 @@ pub(crate) fn group_table(
     space: &mut [u8],
 ) -> Answer
     requires { ⌜ Small n (now table) ⌝ }
-    ensures { λ r. ⌜ Grouped (countRows n k true 0 ++ labelRow n (length (now (labels .entry))) ∷ spaceRow n (length (now (space .entry))) ∷ recordRows n (held (now (table .entry))) k (now (entries .entry))) n (held (now (table .entry))) k (now (entries .entry)) (now (labels .entry)) (now (labels .exit)) (now (space .entry)) (now (space .exit)) r ⌝ }
+    ensures { λ r. ⌜ GroupedAbove (countRows n k true 0) n (now (table .entry)) k (now (entries .entry)) (now (labels .entry)) (now (labels .exit)) (now (space .entry)) (now (space .exit)) r ⌝ }
 {
     match judge_counts(n, k, true, 0) {
         Judged::Accepted => {}
@@ -102,7 +102,7 @@ pub fn grouping(
     labels: &mut [u8],
     space: &mut [u8],
 ) -> Answer
-    ensures { λ r. ⌜ Grouping n k (whole (now (links .entry))) (linksOf (now (links .entry))) (now («record» .entry)) (now (labels .entry)) (now (labels .exit)) (now (space .entry)) (now (space .exit)) r ⌝ }
+    ensures { λ r. ⌜ GroupingBytes n k (now (links .entry)) (now («record» .entry)) (now (labels .entry)) (now (labels .exit)) (now (space .entry)) (now (space .exit)) r ⌝ }
 {
     let mut table = [0u32; 16384];
     match fill(n, k, links, &mut table) {

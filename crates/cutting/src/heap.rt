@@ -10,9 +10,10 @@ ghost use lib.Dec.{eqb};
 ghost use lib.ListN.{length, getD};
 ghost use Rattle.meaning.specs.Count.{least};
 ghost use Rattle.meaning.specs.Heap.{parted, piles};
+ghost use Rattle.meaning.specs.Room.{fitted};
 ghost use Rattle.weighing.specs.Side.{heapOf, sideOf};
-ghost use Rattle.cutting.specs.Record.{cutOf};
-ghost use Rattle.cutting.specs.Names.{names as namesOf, renamedIn, written};
+ghost use Rattle.cutting.specs.Record.{entryCut};
+ghost use Rattle.cutting.specs.Names.{names as namesOf, renamedIn};
 
 // The first byte of a side that is not nought, 16 where all are: no bone of the bytes before it is on the side.
 fn first_byte(side: &[u8; 16]) -> usize
@@ -78,7 +79,7 @@ fn copied(names: &[u8; 128]) -> [u8; 128]
 
 // The heap is parted: the bones that an entry moves become a pile under their own least bone, which is the result.
 pub fn part(names: &mut [u8; 128], n: usize, entry: Entry) -> u8
-    ensures { λ _. ⌜ now (names .exit) ≡ namesOf 128 (parted (min n 128) (heapOf (now (names .entry))) (cutOf entry)) ⌝ }
+    ensures { λ _. ⌜ now (names .exit) ≡ namesOf 128 (parted (min n 128) (heapOf (now (names .entry))) (entryCut entry)) ⌝ }
     ensures { λ r. ⌜ r ≡ least (min n 128) (sideOf (entry .side)) ⌝ }
 {
     let side = entry.side;
@@ -101,7 +102,7 @@ fn name_of(names: &[u8; 128], bone: usize) -> u8
 
 // The names of bones 0 to n − 1 go to the label space, as many as it takes.
 pub fn write_names(names: &[u8; 128], n: usize, labels: &mut [u8])
-    ensures { λ _. ⌜ now (labels .exit) ≡ written (min n 128) (heapOf (now (names .entry))) (now (labels .entry)) ⌝ }
+    ensures { λ _. ⌜ now (labels .exit) ≡ fitted (now (labels .entry)) 0 (namesOf (min n 128) (heapOf (now (names .entry)))) ⌝ }
 {
     let count = lesser(lesser(n, 128), labels.len());
     let mut at = 0;

@@ -15,12 +15,13 @@ ghost use lib.ListN.{length};
 ghost use Rattle.meaning.specs.Count.{some};
 ghost use Rattle.meaning.specs.Judge.{first};
 ghost use Rattle.meaning.specs.Heap.{start, stands as standing, pile, left};
+ghost use Rattle.meaning.specs.Room.{settled};
 ghost use Rattle.weighing.specs.Side.{heapOf, sideOf};
 ghost use Rattle.links.specs.Table.{held};
-ghost use Rattle.cutting.specs.Record.{entrySize, cutOf, cutsOf};
-ghost use Rattle.cutting.specs.Names.{settled, names as namesOf};
-ghost use Rattle.cutting.specs.Replay.{Replayed};
-ghost use Rattle.cutting.specs.RecordRows.{astray as straying, entryRows, entriesRows, recordRows};
+ghost use Rattle.cutting.specs.Record.{entrySize, entryCut, cutsOf};
+ghost use Rattle.cutting.specs.Names.{names as namesOf};
+ghost use Rattle.cutting.specs.Replay.{ReplayedOn};
+ghost use Rattle.cutting.specs.RecordRows.{astray as straying, entryRows, recordRows};
 
 // Whether the pile of that name stands.
 fn stands(names: &[u8; 128], n: usize, name: u8) -> bool
@@ -104,7 +105,7 @@ fn judge_entry(
     i: u32,
 ) -> Judged
     requires { ⌜ n ≤ 128 ⌝ }
-    ensures { λ r. ⌜ r ≡ first (entryRows n (held (now (table .entry))) k (heapOf (now (names .entry))) i (cutOf entry)) ⌝ }
+    ensures { λ r. ⌜ r ≡ first (entryRows n (held (now (table .entry))) k (heapOf (now (names .entry))) i (entryCut entry)) ⌝ }
 {
     if !stands(names, n, entry.pile) {
         return Judged::Refused {
@@ -137,7 +138,7 @@ fn judge_entry(
 // Rows 10 to 13 on each entry of a record in turn, in the heap that those before it leave; the names end as the whole record leaves them.
 fn replay(table: &[u32; 16384], n: usize, k: u64, entries: &[u8], names: &mut [u8; 128]) -> Judged
     requires { ⌜ (n ≤ 128) × (length (now names) ≡ 128) × (length (now entries) / entrySize ≤ 128) ⌝ }
-    ensures { λ r. ⌜ Replayed (entriesRows n (held (now (table .entry))) k (heapOf (now (names .entry))) 0 (cutsOf (now (entries .entry)))) (left n (heapOf (now (names .entry))) (cutsOf (now (entries .entry)))) (now (names .exit)) r ⌝ }
+    ensures { λ r. ⌜ ReplayedOn n (held (now (table .entry))) k (now (names .entry)) (now (entries .entry)) (now (names .exit)) r ⌝ }
 {
     let count = Record::within(entries.len()).cuts;
     let mut i = 0;

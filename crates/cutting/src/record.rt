@@ -2,9 +2,9 @@
 use crate::numbers::less;
 use crate::numbers::lesser;
 ghost use mathlib.Core.Path.{_≡_};
-ghost use Prim.Native.Nat.{_+_, _*_, _-_, _/_, _≤_, _<_, _^_, min};
+ghost use Prim.Native.Nat.{_+_, _*_, _/_, _≤_, _<_, _^_};
 ghost use lib.ListN.{length, take, drop};
-ghost use lib.Seq.{paste};
+ghost use Rattle.meaning.specs.Room.{over, fitted};
 ghost use Rattle.cutting.specs.Record.{entrySize, headBytes, entryAt, entryPut};
 
 // So many entries, from the start of a run of bytes.
@@ -42,7 +42,7 @@ impl Record {
 
 // A run of bytes is put into another, from a place on, as much of it as there is room for.
 pub fn copy(from: &[u8], to: &mut [u8], at: usize)
-    ensures { λ _. ⌜ now (to .exit) ≡ paste (now (to .entry)) at (now (from .entry)) (min (length (now (from .entry))) (length (now (to .entry)) - at)) ⌝ }
+    ensures { λ _. ⌜ now (to .exit) ≡ fitted (now (to .entry)) at (now (from .entry)) ⌝ }
 {
     let count = lesser(from.len(), less(to.len(), at));
     let mut j = 0;
@@ -70,9 +70,9 @@ fn side_at(bytes: &[u8], at: usize) -> [u8; 16]
 }
 
 // The four bytes of a weight, and a pile's name before them, are put from a place on.
-fn put_head(space: &mut [u8], at: usize, pile: u8, weight: u32)
+fn put_name_and_weight(space: &mut [u8], at: usize, pile: u8, weight: u32)
     requires { ⌜ at + 5 ≤ length (now space) ⌝ }
-    ensures { λ _. ⌜ now (space .exit) ≡ paste (now (space .entry)) at (headBytes pile weight) 5 ⌝ }
+    ensures { λ _. ⌜ now (space .exit) ≡ over (now (space .entry)) at (headBytes pile weight) ⌝ }
 {
     let head = [
         pile,
@@ -113,7 +113,7 @@ pub fn write(space: &mut [u8], i: usize, entry: Entry)
         return;
     }
     let at = i * Record::ENTRY;
-    put_head(space, at, entry.pile, entry.weight);
+    put_name_and_weight(space, at, entry.pile, entry.weight);
     let side = entry.side;
     copy(&side, space, at + 5);
 }

@@ -12,20 +12,14 @@ use meaning::Link;
 ghost use mathlib.Core.Path.{_≡_};
 ghost use mathlib.Core.Bool.{true};
 ghost use mathlib.Core.List.{[], _∷_};
-ghost use Prim.Native.Nat.{ℕ, _<_, _^_};
-ghost use lib.ListN.{length};
+ghost use Prim.Native.Nat.{_<_, _^_};
 ghost use Rattle.meaning.specs.declared.Judged.the-variants.{Accepted};
 ghost use Rattle.meaning.specs.Judge.{first};
-ghost use Rattle.meaning.specs.Firm.{label};
 ghost use Rattle.links.specs.Links.{countRows};
-ghost use Rattle.weighing.specs.Side.{heapOf};
-ghost use Rattle.links.specs.Table.{held};
 ghost use Rattle.weighing.specs.Search.{Small};
-ghost use Rattle.cutting.specs.RecordRows.{recordRows};
-ghost use Rattle.cutting.specs.Rows.{labelRow, spaceRow, linkRow};
-ghost use Rattle.cutting.specs.Runs.{Checked, Grouped};
 ghost use Rattle.cutting.specs.Thin.{refused};
 ghost use Rattle.cutting.specs.Calls.{Checking, Grouping, keeping, ThinningRecords};
+ghost use Rattle.cutting.specs.Above.{CheckedAbove, GroupedAbove, LabelledAbove};
 
 // Checking once the links were judged and added: their refusal, or what the table gives.
 pub(crate) fn check_judged(
@@ -37,7 +31,7 @@ pub(crate) fn check_judged(
     labels: &mut [u8],
 ) -> Answer
     requires { ⌜ (judged ≡ Accepted → (first (countRows n k true 0) ≡ Accepted) × Small n (now table)) ⌝ }
-    ensures { λ r. ⌜ Checked (judged ∷ labelRow n (length (now (labels .entry))) ∷ recordRows n (held (now (table .entry))) k (now (entries .entry))) n (held (now (table .entry))) k (now (entries .entry)) (now (labels .entry)) (now (labels .exit)) r ⌝ }
+    ensures { λ r. ⌜ CheckedAbove (judged ∷ []) n (now (table .entry)) k (now (entries .entry)) (now (labels .entry)) (now (labels .exit)) r ⌝ }
 {
     match judged {
         Judged::Accepted => check_table(table, n, k, entries, labels),
@@ -65,7 +59,7 @@ pub(crate) fn group_judged(
     space: &mut [u8],
 ) -> Answer
     requires { ⌜ (judged ≡ Accepted → (first (countRows n k true 0) ≡ Accepted) × Small n (now table)) ⌝ }
-    ensures { λ r. ⌜ Grouped (judged ∷ labelRow n (length (now (labels .entry))) ∷ spaceRow n (length (now (space .entry))) ∷ recordRows n (held (now (table .entry))) k (now (entries .entry))) n (held (now (table .entry))) k (now (entries .entry)) (now (labels .entry)) (now (labels .exit)) (now (space .entry)) (now (space .exit)) r ⌝ }
+    ensures { λ r. ⌜ GroupedAbove (judged ∷ []) n (now (table .entry)) k (now (entries .entry)) (now (labels .entry)) (now (labels .exit)) (now (space .entry)) (now (space .exit)) r ⌝ }
 {
     match judged {
         Judged::Accepted => group_table(table, n, k, entries, labels, space),
@@ -100,7 +94,7 @@ pub(crate) fn label_judged(
     labels: &mut [u8; 128],
 ) -> Judged
     requires { ⌜ (judged ≡ Accepted → (first (countRows n k true 0) ≡ Accepted) × Small n (now table)) ⌝ }
-    ensures { λ r. ⌜ (r ≡ first (judged ∷ linkRow count room ∷ [])) × (r ≡ Accepted → (b : ℕ) → b < n → heapOf (now (labels .exit)) b ≡ label n (held (now (table .entry))) k b) ⌝ }
+    ensures { λ r. ⌜ LabelledAbove judged n (now (table .entry)) k count room (now (labels .exit)) r ⌝ }
 {
     match judged {
         Judged::Accepted => {}

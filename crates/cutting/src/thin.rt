@@ -9,20 +9,17 @@ use links::table::fill;
 use meaning::Judged;
 ghost use mathlib.Core.Path.{_≡_};
 ghost use mathlib.Core.Bool.{true};
-ghost use mathlib.Core.List.{[], _∷_};
-ghost use Prim.Native.Nat.{ℕ, _+_, _*_, _/_, _≤_, _<_};
+ghost use Prim.Native.Nat.{_+_, _*_, _/_, _≤_, _<_};
 ghost use lib.ListN.{length, take, drop};
 ghost use Rattle.meaning.specs.declared.Judged.the-variants.{Accepted};
 ghost use Rattle.meaning.specs.Judge.{first};
-ghost use Rattle.meaning.specs.Firm.{label};
-ghost use Rattle.links.specs.Links.{whole, linksOf, linkAt, countRows, linksRows};
+ghost use Rattle.meaning.specs.Room.{over};
+ghost use Rattle.links.specs.Links.{linksOf, linkAt, countRows, linksRows};
 ghost use Rattle.links.specs.Records.{sameLabel, keptLinks};
-ghost use Rattle.weighing.specs.Side.{heapOf};
-ghost use Rattle.links.specs.Table.{held};
 ghost use Rattle.weighing.specs.Search.{Small};
-ghost use Rattle.cutting.specs.Rows.{linkRow};
 ghost use Rattle.cutting.specs.Thin.{Keeps};
-ghost use Rattle.cutting.specs.Calls.{linkBytes, over, Thins, Thinning};
+ghost use Rattle.cutting.specs.Calls.{linkBytes, ThinningBytes};
+ghost use Rattle.cutting.specs.Above.{ThinsAbove, LabelsOf};
 
 // The link in place i is put behind the links that were kept so far, where its ends bear one name.
 fn keep_link(names: &[u8; 128], links: &[u8], i: usize, space: &mut [u8], kept: usize) -> usize
@@ -41,7 +38,7 @@ fn keep_link(names: &[u8; 128], links: &[u8], i: usize, space: &mut [u8], kept: 
 fn keep(names: &[u8; 128], links: &[u8], space: &mut [u8]) -> usize
     requires { ⌜ length (now links) / 4 ≤ length (now space) / 4 ⌝ }
     ensures { λ r. ⌜ r ≡ length (keptLinks (now (names .entry)) (linksOf (now (links .entry)))) ⌝ }
-    ensures { λ _. ⌜ now (space .exit) ≡ over (linkBytes (keptLinks (now (names .entry)) (linksOf (now (links .entry))))) (now (space .entry)) ⌝ }
+    ensures { λ _. ⌜ now (space .exit) ≡ over (now (space .entry)) 0 (linkBytes (keptLinks (now (names .entry)) (linksOf (now (links .entry))))) ⌝ }
 {
     let count = links.len() / 4;
     let mut kept = 0;
@@ -56,7 +53,7 @@ fn keep(names: &[u8; 128], links: &[u8], space: &mut [u8]) -> usize
 // The names become the labels: one pile of all bones is cut to the end, from the empty record on, in a record space of its own.
 pub(crate) fn name_groups(table: &mut [u32; 16384], n: u64, k: u64, names: &mut [u8; 128])
     requires { ⌜ (first (countRows n k true 0) ≡ Accepted) × Small n (now table) ⌝ }
-    ensures { λ _. ⌜ ((b : ℕ) → b < n → heapOf (now (names .exit)) b ≡ label n (held (now (table .entry))) k b) ⌝ }
+    ensures { λ _. ⌜ LabelsOf n (now (table .entry)) k (now (names .exit)) ⌝ }
 {
     *names = [0u8; 128];
     let mut space = [0u8; 127 * Record::ENTRY];
@@ -72,7 +69,7 @@ pub(crate) fn thin_table(
     space: &mut [u8],
 ) -> Thinned
     requires { ⌜ (first (countRows n k true 0) ≡ Accepted) × (length (now links) / 4 ≤ 4096) × (first (linksRows n 0 (linksOf (now links))) ≡ Accepted) × Small n (now table) ⌝ }
-    ensures { λ r. ⌜ Thins linkBytes (linkRow (length (linksOf (now (links .entry)))) (length (now (space .entry)) / 4) ∷ []) n (held (now (table .entry))) k (linksOf (now (links .entry))) (now (space .entry)) (now (space .exit)) r ⌝ }
+    ensures { λ r. ⌜ ThinsAbove n (now (table .entry)) k (now (links .entry)) (now (space .entry)) (now (space .exit)) r ⌝ }
 {
     if space.len() / 4 < links.len() / 4 {
         return Thinned::Refused {
@@ -90,7 +87,7 @@ pub(crate) fn thin_table(
 // Thins the links: gives the number of links whose ends share a group, and writes them in order to the front of the link space; or gives
 // the first refusal, which leaves the link space as it was. Links are lent as bytes, four a link, and the room counts in whole links.
 pub fn thinning(n: u64, k: u64, links: &[u8], space: &mut [u8]) -> Thinned
-    ensures { λ r. ⌜ Thinning n k (whole (now (links .entry))) (linksOf (now (links .entry))) (now (space .entry)) (now (space .exit)) r ⌝ }
+    ensures { λ r. ⌜ ThinningBytes n k (now (links .entry)) (now (space .entry)) (now (space .exit)) r ⌝ }
 {
     let mut table = [0u32; 16384];
     match fill(n, k, links, &mut table) {

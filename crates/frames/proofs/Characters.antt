@@ -15,7 +15,7 @@ use Rattle.frames.specs.Frame.{payloads, isKind}
 use Rattle.frames.specs.Characters.{pairOf, kindOf, feedAt}
 use Rattle.frames.proofs.Frames.{chosen}
 
--- no payload is longer than 21 bytes
+-- the length of a payload is a byte
 most : ℕ → List ℕ → Bool
 most m [] = true
 most m (x ∷ xs) = leb x m && most m xs
@@ -26,9 +26,9 @@ at-most m [] t i = omega arith
 at-most m (x ∷ xs) t zero = leb→le x m (left-of (leb x m) (most m xs) t)
 at-most m (x ∷ xs) t (suc i) = at-most m xs (right-of (leb x m) (most m xs) t) i
 
-pub payload-most : (kind : ℕ) → getD payloads kind 0 ≤ 21
+pub payload-most : (kind : ℕ) → getD payloads kind 0 < 256
 unfolding most
-payload-most kind = at-most 21 payloads tt kind
+payload-most kind = omega (arith, at-most 255 payloads tt kind)
 
 -- a kind is a number from 1 on that the table has
 pub kind-bounds : (k : ℕ) → T (isKind k) → (1 ≤ k) × (k < length payloads)

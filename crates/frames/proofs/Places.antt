@@ -5,8 +5,9 @@ use mathlib.Core.Path.{_≡_, refl, sym, _∙_, subst}
 use mathlib.Core.List.{List}
 use borrow.Author.Tests.{lt-ltb, le-ltb}
 use lib.ListN.{length}
+use Rattle.meaning.specs.Room.{over}
 use Rattle.frames.specs.Frame.{line}
-use Rattle.frames.specs.Placing.{over, placed, behind, Puts}
+use Rattle.frames.specs.Placing.{placed, behind, Puts}
 
 -- where it fits, it is written over the room
 module _ (room : List ℕ) (at : ℕ) (text room′ : List ℕ) (r : ℕ) (fits : at + length text ≤ length room) where

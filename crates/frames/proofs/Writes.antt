@@ -1,58 +1,21 @@
--- Writing at a place of lent room: one byte, a text behind a text, and the length that stays.
+-- Writing lines at a place of lent room: a byte as two digits, a run of bytes with its sum, and a line from its parts.
 -- Assumes nothing.
-use Prim.Native.Nat.{ℕ, suc, _+_, _*_, _-_, _%_, _≤_, _<_}
-use mathlib.Core.Path.{_≡_, refl, sym, ap, ap₂, _∙_}
-use mathlib.Core.List.{List, [], _∷_, _++_, append-assoc, append-nil}
-use native.Mathlib.Nat.{add-zero, add-assoc}
+use Prim.Native.Nat.{ℕ, _+_, _*_, _%_, _≤_, _<_}
+use mathlib.Core.Path.{_≡_, refl, sym, ap, _∙_}
+use mathlib.Core.List.{List, [], _∷_, _++_}
 use native.Mathlib.Numerals.{add-one}
 use native.Mathlib.Omega.{arith}
-use lib.ListN.{length, getD, take, drop, set, length-append, length-drop, take-append-drop}
-use lib.Seq.{length-take-le, take-at, drop-at, drop-drop, set-split, append-snoc, sets-eq, take-suc, take-append-le, take-take}
+use lib.ListN.{length, getD, take, set, length-append}
+use lib.Seq.{length-take-le, take-suc}
+use Rattle.meaning.specs.Room.{over}
+use Rattle.meaning.proofs.Room.{over-one, over-next, length-over, onto}
 use Rattle.frames.specs.Frame.{byteSum, sumByte, hex, line}
-use Rattle.frames.specs.Placing.{over}
 use Rattle.frames.proofs.Frames.{length-hex, hex-append, sum-bound, sum-snoc, whole, whole-length}
-
-pub over-nil : (room : List ℕ) (at : ℕ) → over room at [] ≡ room
-unfolding over
-over-nil room at = rw (add-zero, append-nil) (take-append-drop at room)
-
-pub over-one : (room : List ℕ) (at b : ℕ) → at < length room → set room at b ≡ over room at (b ∷ [])
-unfolding over
-over-one room at b h = rw (set-split, add-one) (sym (append-snoc (take at room) b (drop (suc at) room)))
-
-pub length-over : (room : List ℕ) (at : ℕ) (text : List ℕ) → at + length text ≤ length room → length (over room at text) ≡ length room
-unfolding over
-length-over room at text h =
-    let a : at ≤ length room = omega arith in
-    simp (length-append, length-drop, length-take-le at room a) (omega arith)
-
-module _ (room : List ℕ) (at : ℕ) (s t : List ℕ) (h : at + length s ≤ length room) where
-  front : length (take at room ++ s) ≡ at + length s
-  front = let a : at ≤ length room = omega arith in simp (length-append, length-take-le at room a)
-
-  -- a text behind a text
-  pub over-then : over (over room at s) (at + length s) t ≡ over room at (s ++ t)
-  unfolding over
-  over-then =
-      ap₂ (λ (u v : List ℕ). u ++ t ++ v)
-      (take-at (take at room ++ s) (drop (at + length s) room) (at + length s) front)
-      (sym (drop-drop (length t) (at + length s) _)
-      ∙ ap (drop (length t)) (drop-at (take at room ++ s) (drop (at + length s) room) (at + length s) front)
-      ∙ drop-drop (length t) (at + length s) room)
-      ∙ ap₂ (λ (u v : List ℕ). u ++ v)
-      (append-assoc (take at room) s t)
-      (ap (λ (m : ℕ). drop m room) (add-assoc at (length s) (length t) ∙ ap (λ (m : ℕ). at + m) (sym (length-append s t))))
-
--- a text onto a text: at the place where the one before it ends
-pub onto : (room : List ℕ) (at : ℕ) (s t : List ℕ) (r : List ℕ) (place : ℕ) → r ≡ over room at s → place ≡ at + length s → at + length s ≤ length room
-    → over r place t ≡ over room at (s ++ t)
-onto room at s t r place e f h = ap₂ (λ (x : List ℕ) (m : ℕ). over x m t) e f ∙ over-then room at s t h
 
 -- two characters, one behind the other
 pub over-two : (room : List ℕ) (at b c : ℕ) → at + 2 ≤ length room → set (set room at b) (at + 1) c ≡ over room at (b ∷ c ∷ [])
-unfolding over
 over-two room at b c h =
-    ap (λ (m : ℕ). set (set room at b) m c) (add-one at) ∙ sets-eq (b ∷ c ∷ []) room at h
+    ap (λ (r : List ℕ). set r (at + 1) c) (over-one room at b (omega arith)) ∙ over-next room at (b ∷ []) c (omega arith)
 
 -- one byte more of a run
 module _ (bytes : List ℕ) (i : ℕ) (h : i < length bytes) where
@@ -103,17 +66,3 @@ module _ (room : List ℕ) (at kind : ℕ) (payload : List ℕ) (h : at + (2 * l
       let long : length t ≡ length room = ap length g′ ∙ length-over room at (hex (whole kind payload)) (omega arith) in
       over-one t (at + 2 + 2 * length payload + 2) 10 (omega arith)
       ∙ onto room at (hex (whole kind payload)) (10 ∷ []) t (at + 2 + 2 * length payload + 2) g′ (omega arith) (omega arith)
-
--- a text in front of a text that was written first
-pub before : (room : List ℕ) (place at : ℕ) (s t : List ℕ) → place ≡ at + length s → place + length t ≤ length room
-    → over (over room place t) at s ≡ over room at (s ++ t)
-unfolding over
-before room place at s t e h =
-    let front : length (take place room) ≡ place = length-take-le place room (omega arith) in
-    let parts : take place room ++ t ++ drop (place + length t) room ≡ take place room ++ (t ++ drop (place + length t) room) = append-assoc (take place room) t _ in
-    let sum : place + length t ≡ at + length (s ++ t) = omega (arith, length-append s t) in
-    ap₂ (λ (u v : List ℕ). u ++ s ++ v)
-    (ap (take at) parts ∙ take-append-le at (take place room) _ (omega arith) ∙ take-take at place room (omega arith))
-    (ap₂ (λ (m : ℕ) (l : List ℕ). drop m l) (sym e) parts ∙ drop-at (take place room) _ place front)
-    ∙ sym (append-assoc (take at room ++ s) t (drop (place + length t) room))
-    ∙ ap₂ (λ (u v : List ℕ). u ++ v) (append-assoc (take at room) s t) (ap (λ (m : ℕ). drop m room) sum)

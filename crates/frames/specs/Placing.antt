@@ -2,15 +2,12 @@
 use Prim.Native.Nat.{ℕ, _+_}
 use mathlib.Core.Path.{_≡_}
 use mathlib.Core.Bool.{cond}
-use mathlib.Core.List.{List, _++_}
+use mathlib.Core.List.{List}
 use lib.Dec.{ltb}
-use lib.ListN.{length, take, drop}
+use lib.ListN.{length}
+use Rattle.meaning.specs.Room.{over}
 
--- lent room after a text was written at a place of it; the rest as it was
-unfoldable pub over : List ℕ → ℕ → List ℕ → List ℕ
-over room at text = take at room ++ text ++ drop (at + length text) room
-
--- the same, where the text fits behind the place; else the room as it was
+-- a text at a place of lent room, where it fits behind the place; else the room as it was
 unfoldable pub placed : List ℕ → ℕ → List ℕ → List ℕ
 placed room at text = cond (ltb (length room) (at + length text)) room (over room at text)
 

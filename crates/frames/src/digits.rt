@@ -27,7 +27,7 @@ pub fn pair(high: u8, low: u8) -> usize
     let l = value(low);
     if h < 16 {
         if l < 16 {
-            return wide(h) * 16 + wide(l);
+            return as_number(h) * 16 + as_number(l);
         }
     }
     256
@@ -42,7 +42,7 @@ pub fn kind_of(high: u8, low: u8) -> usize
 }
 
 // A byte as a number that counts bytes and places.
-pub fn wide(x: u8) -> usize
+pub fn as_number(x: u8) -> usize
     ensures { λ r. ⌜ r ≡ x ⌝ }
 {
     x as usize

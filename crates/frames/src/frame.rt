@@ -4,7 +4,7 @@ ghost use Prim.Native.Nat.{_+_, _%_};
 ghost use lib.ListN.{getD};
 ghost use Rattle.frames.specs.Frame.{payloads};
 ghost use Rattle.frames.specs.Characters.{feedAt};
-use crate::digits::wide;
+use crate::digits::as_number;
 
 // Kinds are numbers below this.
 pub const KINDS: usize = 8;
@@ -31,10 +31,10 @@ pub fn payload(kind: usize) -> usize
     ensures { λ r. ⌜ r ≡ getD payloads kind 0 ⌝ }
 {
     if kind == 2 {
-        return wide(PAYLOADS[2]);
+        return as_number(PAYLOADS[2]);
     }
     if kind < KINDS {
-        wide(PAYLOADS[kind])
+        as_number(PAYLOADS[kind])
     } else {
         0
     }

@@ -4,8 +4,9 @@ ghost use mathlib.Core.List.{[], _∷_};
 ghost use Prim.Native.Nat.{_+_, _*_, _≤_, _<_};
 ghost use lib.Dec.{ltb};
 ghost use lib.ListN.{length};
+ghost use Rattle.meaning.specs.Room.{over};
 ghost use Rattle.frames.specs.Frame.{byteSum, digit, hex, line};
-ghost use Rattle.frames.specs.Placing.{over, Puts};
+ghost use Rattle.frames.specs.Placing.{Puts};
 
 // The character of a digit.
 fn digit_of(d: u8) -> u8

@@ -15,6 +15,7 @@ pub mod RecordsCalls
 pub mod RecordsRead
 pub mod RecordsShort
 pub mod RecordsTable
+pub mod Meets
 pub mod Locals
 pub mod RecordsLocal
 pub mod RecordsFill

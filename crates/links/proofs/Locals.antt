@@ -1,7 +1,6 @@
 -- An array in a local of a walk, lent to a call as a slice; and the front of a slice that is lent to be read. They hold for any type of elements.
 --     localTy                      the local's MIR type
 --     repeat-typed, lies-repeat    what storing a `[v; n]` asks; and so it lies in its local
---     lies-held                    so does an array that a call gave
 --     lends-mut, mut-back          it is lent as a `&mut [T]` for κ, and lies there again once κ is over, at the slice's last value
 --     lends-shared                 it is lent as a `&[T]` for κ
 --     local-room, shared-room      the local is room again, from where the array lies, and from what a `&[T]` gave back
@@ -31,7 +30,7 @@ use denote.RattleType.{RattleType}
 use denote.Shadow.{shadow}
 use denote.Laws.{Is, Tells, Makes, Copy, Lawful, shows}
 use denote.Memory.{lone, cellAt, partAt, partOf, mem, shares}
-use denote.Array.{Array, each, arrayVal, array-vals, array-lawful, array-tells, array-makes, array-repeat}
+use denote.Array.{Array, each, arrayVal, array-vals, array-lawful, array-tells, array-repeat}
 use denote.ArrayMemory.{Single, array-apart, array-whole}
 use denote.Builtin.{u8}
 use denote.Steps.{peeks}
@@ -97,13 +96,6 @@ module _ (R : RattleType) (n : ℕ) where
 
       pub shared-room : (xs : List (R .Denot)) (b : ℕ) → ent 𝓤 (sem 𝓤 H A (Back xs b)) (H .room localTy b 0)
       shared-room xs b = via 𝓤 _ (array-whole 𝓤 H A W R fullShare n xs b 0) (local-room xs b)
-
-    pub lies-held : (xs : List (R .Denot)) (v : Val) → Is (Array R n) xs (v ∷ []) → Makes 𝓤 H A R (Is R) → (b : ℕ) → ent 𝓤 (H .at fullShare localTy b 0 v) (sem 𝓤 H A (partAt (Array R n) fullShare xs b 0))
-    unfolding partOf
-    lies-held xs v is mk b =
-        qed W (‵ (fat fullShare localTy b 0 v) ∷ []) ∵ use1 W (‵ (fat fullShare (rawTy localTy) b 0 v)) (W .laws .at-raw fullShare localTy b 0 v) $
-        use0 W (‵ (Array R n .own xs (v ∷ []))) (array-makes 𝓤 H A W R mk n xs (v ∷ []) is) $
-        move ! (1 ∷ 0 ∷ []) $ fjoin ! $ fpack ! (List Val) (λ us. fsep (cellAt fullShare (Array R n .mir) us b 0) (Array R n .own xs us)) (v ∷ []) $ done !
 
     module _ (x : R .Denot) (u : Val) (is : Is R x (u ∷ [])) where
       each-is : (m : ℕ) → shadow (each (R .Denot) (R .own) (replicate m x) (replicate m u))

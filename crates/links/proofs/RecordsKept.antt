@@ -4,15 +4,17 @@ use Prim.Native.Nat.{ℕ, suc, _+_, _<_, _≤_}
 use mathlib.Core.Path.{_≡_, refl, sym, _∙_, ap}
 use mathlib.Core.Bool.{Bool, true, false, cond, _&&_}
 use mathlib.Core.List.{List, [], _∷_, _++_, append-nil}
-use native.Mathlib.Nat.{zero-add, add-zero, add-suc, suc-add, le-refl}
+use native.Mathlib.Nat.{zero-add, le-refl}
 use native.Mathlib.Numerals.{add-one}
 use native.Mathlib.Omega.{arith}
 use lib.Dec.{eqb}
 use lib.ListN.{length, getD, set, take, length-append}
-use lib.Seq.{sets, length-sets, take-suc, take-length, length-take-le}
+use lib.Seq.{take-suc, take-length, length-take-le}
 use borrow.Author.Tests.{lt-ltb, le-ltb}
 use Rattle.meaning.specs.declared.Link.{Link}
-use Rattle.links.specs.Records.{noLink, sameLabel, keptLinks, written}
+use Rattle.meaning.specs.Room.{fitted}
+use Rattle.meaning.proofs.Room.{fitted-next}
+use Rattle.links.specs.Records.{noLink, sameLabel, keptLinks}
 
 pub take-next : (links : List Link) (i : ℕ) → i < length links → take (i + 1) links ≡ take i links ++ getD links i noLink ∷ []
 take-next links i h = rw add-one (take-suc links i noLink h)
@@ -45,10 +47,6 @@ kept-last labels [] l = refl
 kept-last labels (k ∷ ls) l =
     ap (λ (ms : List Link). cond (sameLabel labels k) (k ∷ ms) ms) (kept-last labels ls l) ∙ cond-append (sameLabel labels k) k (keptLinks labels ls) (cond (sameLabel labels l) (l ∷ []) [])
 
-sets-last : (room : List Link) (i : ℕ) (ls : List Link) (l : Link) → sets room i (ls ++ l ∷ []) ≡ set (sets room i ls) (i + length ls) l
-sets-last room i [] l = ap (λ (j : ℕ). set room j l) (sym (add-zero i))
-sets-last room i (k ∷ ls) l = sets-last (set room i k) (suc i) ls l ∙ ap (λ (j : ℕ). set (sets (set room i k) (suc i) ls) j l) (suc-add i (length ls) ∙ sym (add-suc i (length ls)))
-
 -- those kept of the first i links of a run, and how the next one goes
 unfoldable pub keptOf : List ℕ → List Link → ℕ → List Link
 keptOf labels links i = keptLinks labels (take i links)
@@ -75,11 +73,12 @@ module _ (labels : List ℕ) (links : List Link) (i : ℕ) (h : i < length links
   pub kept-yes : sameLabel labels (getD links i noLink) ≡ true → length (keptOf labels links i) + 1 ≡ length (keptOf labels links (i + 1))
   kept-yes e = sym (ap length (kept-one e) ∙ length-append (keptOf labels links i) (getD links i noLink ∷ []))
 
-  pub written-yes : (room : List Link) → sameLabel labels (getD links i noLink) ≡ true → set (written room (keptOf labels links i)) (length (keptOf labels links i)) (getD links i noLink) ≡ written room (keptOf labels links (i + 1))
-  unfolding written
+  pub written-yes : (room : List Link) → sameLabel labels (getD links i noLink) ≡ true
+      → set (fitted room 0 (keptOf labels links i)) (length (keptOf labels links i)) (getD links i noLink) ≡ fitted room 0 (keptOf labels links (i + 1))
   written-yes room e =
-      ap (λ (j : ℕ). set (sets room 0 (keptOf labels links i)) j (getD links i noLink)) (sym (zero-add (length (keptOf labels links i))))
-      ∙ sym (ap (sets room 0) (kept-one e) ∙ sets-last room 0 (keptOf labels links i) (getD links i noLink))
+      ap (λ (j : ℕ). set (fitted room 0 (keptOf labels links i)) j (getD links i noLink)) (sym (zero-add (length (keptOf labels links i))))
+      ∙ fitted-next room 0 (keptOf labels links i) (getD links i noLink)
+      ∙ ap (fitted room 0) (sym (kept-one e))
 
 -- no more are kept than there are
 cond-few : (s : Bool) (l : Link) (ls : List Link) (n : ℕ) → length ls ≤ n → length (cond s (l ∷ ls) ls) ≤ suc n
@@ -94,11 +93,3 @@ kept-few labels (l ∷ ls) = cond-few (sameLabel labels l) l (keptLinks labels l
 pub kept-most : (labels : List ℕ) (links : List Link) (i : ℕ) → i ≤ length links → length (keptOf labels links i) ≤ i
 unfolding keptOf
 kept-most labels links i h = omega (arith, kept-few labels (take i links), length-take-le i links h)
-
-pub written-none : (room : List Link) → room ≡ written room []
-unfolding written
-written-none room = refl
-
-pub length-written : (room ls : List Link) → length (written room ls) ≡ length room
-unfolding written
-length-written room ls = length-sets room 0 ls

@@ -1,13 +1,14 @@
 -- Runs of link records: what the functions over them say of one link and of those before it.
 use Prim.Native.Nat.{ℕ}
+use mathlib.Core.Path.{_≡_}
 use mathlib.Core.Bool.{Bool, cond, _&&_}
 use mathlib.Core.List.{List, [], _∷_}
 use lib.Dec.{eqb, ltb}
-use lib.ListN.{getD}
-use lib.Seq.{sets}
+use lib.ListN.{length, getD}
 use Rattle.meaning.specs.declared.Link.{Link}
 use Rattle.meaning.specs.declared.Judged.{Judged}
 use Rattle.meaning.specs.declared.Judged.the-variants.{Accepted, Refused}
+use Rattle.meaning.specs.Room.{fitted}
 
 -- the link of noughts, which stands where there is none
 abbrev pub noLink : Link
@@ -32,6 +33,6 @@ unfoldable pub keptLinks : List ℕ → List Link → List Link
 keptLinks labels [] = []
 keptLinks labels (l ∷ ls) = cond (sameLabel labels l) (l ∷ keptLinks labels ls) (keptLinks labels ls)
 
--- links written from the start of lent room: nothing is written past its end, and the rest stays
-unfoldable pub written : List Link → List Link → List Link
-written room links = sets room 0 links
+-- they are kept at the front of lent room, as many as it takes, and their number is given
+abbrev pub KeepsLinks : List ℕ → List Link → List Link → List Link → ℕ → Type 0
+KeepsLinks labels links room room′ r = (r ≡ length (keptLinks labels links)) × (room′ ≡ fitted room 0 (keptLinks labels links))

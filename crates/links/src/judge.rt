@@ -58,7 +58,7 @@ pub fn judge_link(n: u64, a: u8, b: u8, tally: u16, i: u32) -> Judged
 }
 
 // A tally from its two bytes.
-pub fn tally_of(high: u8, low: u8) -> u16
+pub fn tally_from_bytes(high: u8, low: u8) -> u16
     ensures { λ r. ⌜ r ≡ high * 256 + low ⌝ }
 {
     (high as u16) * 256 + low as u16
@@ -76,7 +76,7 @@ pub fn link_at(links: &[u8], i: usize) -> Link
         };
     }
     let at = i * 4;
-    let tally = tally_of(links[at + 2], links[at + 3]);
+    let tally = tally_from_bytes(links[at + 2], links[at + 3]);
     Link {
         a: links[at],
         b: links[at + 1],

@@ -11,11 +11,10 @@ use meaning::Link;
 ghost use mathlib.Core.Path.{_≡_};
 ghost use Prim.Native.Nat.{_<_, _≤_};
 ghost use mathlib.Core.Bool.{true};
-ghost use lib.ListN.{length};
 ghost use Rattle.meaning.specs.Judge.{first};
 ghost use Rattle.links.specs.Links.{linkRows, tableRows};
 ghost use Rattle.links.specs.Table.{taken, filled};
-ghost use Rattle.links.specs.Records.{upTo, keptLinks, written};
+ghost use Rattle.links.specs.Records.{upTo, KeepsLinks};
 
 // How many links are to be gone through: all, or none once the input is refused.
 fn up_to(judged: Judged, count: usize) -> usize
@@ -70,7 +69,7 @@ pub fn judge_records(n: u64, k: u64, links: &[Link]) -> Judged
 // Writes in order the links whose ends carry the same label, and gives their number. Nothing is written past the end of `out`, and the rest of it
 // stays.
 pub fn keep_links(links: &[Link], labels: &[u8; 128], out: &mut [Link]) -> usize
-    ensures { λ r. ⌜ (r ≡ length (keptLinks (now (labels .entry)) (now (links .entry)))) × (now (out .exit) ≡ written (now (out .entry)) (keptLinks (now (labels .entry)) (now (links .entry)))) ⌝ }
+    ensures { λ r. ⌜ KeepsLinks (now (labels .entry)) (now (links .entry)) (now (out .entry)) (now (out .exit)) r ⌝ }
 {
     let count = links.len();
     let mut kept = 0;

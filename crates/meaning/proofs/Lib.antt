@@ -12,3 +12,4 @@ pub mod Ends
 pub mod Cases
 pub mod Theorems
 pub mod Bytes
+pub mod Room

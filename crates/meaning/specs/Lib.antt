@@ -5,4 +5,5 @@ pub mod Firm
 pub mod Heap
 pub mod Judge
 pub mod Bytes
+pub mod Room
 pub mod Cases

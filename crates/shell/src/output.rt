@@ -9,7 +9,7 @@ pub fn to_print(answered: Written, room: usize) -> usize
     ensures { λ r. ⌜ r ≡ shown answered room ⌝ }
 {
     match answered {
-        Written::Bytes { count } => {
+        Written::Wrote { count } => {
             let end = count as usize;
             if end < room { end } else { room }
         }

@@ -26,7 +26,7 @@ use Rattle.frames.specs.Stages.{after, open-at}
 use Rattle.texts.specs.Lines.{Line, linesOf, lineRows}
 use Rattle.texts.specs.Reader.{read, entryIn, linksIn, entriesIn, bonesIn, thresholdIn}
 use Rattle.texts.specs.Walk.{byteAt, digitsAt, sizeAt, Found}
-use Rattle.texts.specs.Judging.{Passes, LineJudged, Small, Ready, Advanced, headFrom, answer, readFrom}
+use Rattle.texts.specs.Judging.{Passes, LineJudged, Bounded, Ready, Advanced, headFrom, readingOf, readFrom}
 use Rattle.texts.proofs.Lines.{front}
 use Rattle.texts.proofs.Walks.{size-of, well-digits, well-room}
 use Rattle.texts.proofs.Judging.{row-applies, row-passes, rest, rest-at, rows-pass, head-read, head-kept}
@@ -38,7 +38,7 @@ pub record Moved (text : List ℕ) (s s′ : Progress) : Type 0 where
   pub line : s′ .line ≡ s .line + 1
   pub stage : s′ .stage ≡ after (s .stage) (byteAt (drop (s .at) text) 0)
 
-module _ (text : List ℕ) (s s′ : Progress) (small : Small text s) (p : Passes (drop (s .at) text) (s .stage) (s .line)) (m : Moved text s s′) where
+module _ (text : List ℕ) (s s′ : Progress) (small : Bounded text s) (p : Passes (drop (s .at) text) (s .stage) (s .line)) (m : Moved text s s′) where
   rest-here : rest (drop (s .at) text) ≡ linesOf (drop (s′ .at) text)
   rest-here = rest-at text (s .at) (s′ .at) (m .place)
 
@@ -53,13 +53,13 @@ module _ (text : List ℕ) (s s′ : Progress) (small : Small text s) (p : Passe
       let stage = sym (m .stage) in
       let rows = rows-pass (drop (s .at) text) (s .stage) (s .line) p in
       let line : suc (s .line) ≡ s′ .line = sym (add-one (s .line)) ∙ sym (m .line) in
-      (λ i. answer (rows i) (en i) (ek i) (el i) (ec i))
+      (λ i. readingOf (rows i) (en i) (ek i) (el i) (ec i))
       ∙ (λ i.
-      answer (first (lineRows (stage i) (line i) (rest-here i))) (headFrom (stage i) (bonesIn (rest-here i)) (s′ .n))
+      readingOf (first (lineRows (stage i) (line i) (rest-here i))) (headFrom (stage i) (bonesIn (rest-here i)) (s′ .n))
       (headFrom (stage i) (thresholdIn (rest-here i)) (s′ .k)) (s′ .links + length (linksIn (rest-here i)))
       (s′ .cuts + length (entriesIn (rest-here i)) / entrySize))
 
-  small-here : s′ .links ≤ s .links + 1 → s′ .cuts ≤ s .cuts + 1 → Small text s′
+  small-here : s′ .links ≤ s .links + 1 → s′ .cuts ≤ s .cuts + 1 → Bounded text s′
   small-here a b =
       let r = well-room text (s .at) (p .well) in
       record {
@@ -217,10 +217,10 @@ abbrev pub beginning : Progress
 beginning = record { at = 0; line = 0; stage = Opening; n = 0; k = 0; links = 0; cuts = 0 }
 
 pub read-start : (ls : List Line) → read (first (lineRows Opening 0 ls)) ls ≡ readFrom beginning ls
-unfolding readFrom headFrom read answer
+unfolding readFrom headFrom read readingOf
 read-start ls = by-row (first (lineRows Opening 0 ls))
   where
-    by-row : (j : Judged) → read j ls ≡ answer j (bonesIn ls) (thresholdIn ls) (0 + length (linksIn ls)) (0 + length (entriesIn ls) / entrySize)
+    by-row : (j : Judged) → read j ls ≡ readingOf j (bonesIn ls) (thresholdIn ls) (0 + length (linksIn ls)) (0 + length (entriesIn ls) / entrySize)
     by-row Accepted =
         let a : length (linksIn ls) ≡ 0 + length (linksIn ls) = omega arith in
         let b : length (entriesIn ls) / entrySize ≡ 0 + length (entriesIn ls) / entrySize = omega arith in
@@ -229,9 +229,9 @@ read-start ls = by-row (first (lineRows Opening 0 ls))
 
 pub read-refused : (s : Progress) (ls : List Line) (number place : ℕ) → first (lineRows (s .stage) (s .line) ls) ≡ Refused number place
     → readFrom s ls ≡ Refused·reading number place
-unfolding readFrom answer
+unfolding readFrom readingOf
 read-refused s ls number place e =
-    ap (λ (j : Judged). answer j (headFrom (s .stage) (bonesIn ls) (s .n)) (headFrom (s .stage) (thresholdIn ls) (s .k)) (s .links + length (linksIn ls)) (s .cuts + length (entriesIn ls) / entrySize)) e
+    ap (λ (j : Judged). readingOf j (headFrom (s .stage) (bonesIn ls) (s .n)) (headFrom (s .stage) (thresholdIn ls) (s .k)) (s .links + length (linksIn ls)) (s .cuts + length (entriesIn ls) / entrySize)) e
 
 at-end : (text : List ℕ) (s : Progress) → length text ≤ s .at → linesOf (drop (s .at) text) ≡ []
 unfolding linesOf
@@ -252,7 +252,7 @@ closed-only Closed e = refl
 
 pub read-end : (text : List ℕ) (s : Progress) → length text ≤ s .at → open-at (s .stage) ≡ false
     → readFrom s (linesOf (drop (s .at) text)) ≡ Got (s .n) (s .k) (s .links) (s .cuts)
-unfolding readFrom answer headFrom lineRows first linksIn entriesIn
+unfolding readFrom readingOf headFrom lineRows first linksIn entriesIn
 read-end text s h e =
     let none = at-end text s h in
     let shut = closed-only (s .stage) e in
@@ -260,9 +260,9 @@ read-end text s h e =
     let a : s .links + 0 ≡ s .links = omega arith in
     let b : s .cuts + 0 / entrySize ≡ s .cuts = omega arith in
     ap (readFrom s) none
-    ∙ (λ i. answer (rows i) (headFrom (shut i) (bonesIn []) (s .n)) (headFrom (shut i) (thresholdIn []) (s .k)) (a i) (b i))
+    ∙ (λ i. readingOf (rows i) (headFrom (shut i) (bonesIn []) (s .n)) (headFrom (shut i) (thresholdIn []) (s .k)) (a i) (b i))
 
-pub ready : (text : List ℕ) (s : Progress) (f : Frame) (number : ℕ) → Small text s → Found (drop (s .at) text) f
+pub ready : (text : List ℕ) (s : Progress) (f : Frame) (number : ℕ) → Bounded text s → Found (drop (s .at) text) f
     → LineJudged (drop (s .at) text) (s .stage) (s .line) number → number ≡ 0 → Ready text s f
 ready text s f number small found judged e =
     let p = judged .passed e in

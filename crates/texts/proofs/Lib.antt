@@ -8,10 +8,9 @@ pub mod ReadsRows
 pub mod ReadsStore
 pub mod ReadsPut
 pub mod ReadsAll
-pub mod ReadsRow
+pub mod AnswerRows
 -- The laws about lines of a kind, and about what a writer answers.
 pub mod WritesLines
-pub mod WritesAnswer
 pub mod Fronts
 -- The laws about writing an input text.
 pub mod WritesRows
@@ -20,7 +19,6 @@ pub mod WritesLent
 pub mod WritesRecord
 pub mod WritesInput
 -- The laws about writing a result text, and the theorems about texts.
-pub mod AnswerRow
 pub mod WritesTexts
 pub mod ResultRows
 pub mod WritesResult

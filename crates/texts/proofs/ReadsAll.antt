@@ -1,23 +1,25 @@
 -- Laws of reading a text whole: what was judged can be stored, and storing it leaves what the reader promises.
 -- Assumes nothing.
-use Prim.Native.Nat.{ℕ, zero, suc, _+_, _*_, _-_, _≤_}
+use Prim.Native.Nat.{ℕ, _*_, _≤_}
 use mathlib.Core.Path.{_≡_, refl, sym, _∙_, ap}
 use mathlib.Core.List.{List, [], _∷_, _++_}
 use native.Mathlib.Omega.{arith}
 use lib.Dec.{T, ltb, nltb→le}
-use lib.ListN.{length, take, drop, length-append, length-drop}
-use lib.Seq.{take-length, length-take-le}
+use lib.ListN.{length-take, length, take, drop}
+use lib.Seq.{take-all}
 use Rattle.meaning.specs.declared.Link.{Link}
 use Rattle.meaning.specs.declared.Judged.{Judged}
 use Rattle.meaning.specs.declared.Judged.the-variants.{Accepted, Refused}
 use Rattle.meaning.specs.Judge.{first}
+use Rattle.meaning.specs.Room.{over, settled}
+use Rattle.meaning.proofs.Room.{over-nil, length-over}
 use Rattle.cutting.specs.Record.{entrySize}
 use Rattle.texts.specs.declared.Reading.{Reading}
 use Rattle.frames.specs.declared.stage.Stage.the-variants.{Opening}
 use Rattle.texts.specs.Lines.{linesOf, lineRows}
-use Rattle.texts.specs.Reader.{linksIn, entriesIn, readerRows, read, put, Reads}
+use Rattle.texts.specs.Reader.{linksIn, entriesIn, readerRows, read, Reads}
 use Rattle.texts.specs.Judging.{allWell}
-use Rattle.texts.specs.Storing.{linksOf, cutsHeld, Storable}
+use Rattle.texts.specs.Storing.{linksRead, cutsRead, Storable}
 use Rattle.texts.proofs.ReadsRows.{counts, accepted-row, accepted-well, entries-whole}
 
 -- where two runs of rows are accepted, each is
@@ -54,61 +56,57 @@ accepted-fits text lent room e =
 
 -- what is put where all, or none, of a text's items are stored
 module _ {A : Type 0} (given room : List A) where
-  put-all : (count : ℕ) → count ≡ length given → take count given ++ drop count room ≡ put Accepted given room
-  unfolding put
-  put-all count e = rw e (ap (λ (l : List A). l ++ drop (length given) room) (take-length given))
+  put-all : (count : ℕ) → count ≡ length given → over room 0 (take count given) ≡ settled Accepted room (over room 0 given)
+  unfolding settled
+  put-all count e = ap (over room 0) (take-all count given (omega arith))
 
-  put-none : (count number place : ℕ) → count ≡ 0 → take count given ++ drop count room ≡ put (Refused number place) given room
-  unfolding put
-  put-none count number place e = rw e
+  put-none : (count number place : ℕ) → count ≡ 0 → over room 0 (take count given) ≡ settled (Refused number place) room (over room 0 given)
+  unfolding settled
+  put-none count number place e = ap (λ (m : ℕ). over room 0 (take m given)) e ∙ over-nil room 0
 
 -- what a reading has to store, by its judgement
 record Held (text : List ℕ) (j : Judged) (links : List Link) (space : List ℕ) (count cuts : ℕ) : Type 0 where
   pub links-ok : Storable text count (length (linksIn (linesOf text))) (length links)
   pub cuts-ok : Storable text (cuts * entrySize) (length (entriesIn (linesOf text))) (length space)
-  pub links-put : take count (linksIn (linesOf text)) ++ drop count links ≡ put j (linksIn (linesOf text)) links
-  pub cuts-put : take (cuts * entrySize) (entriesIn (linesOf text)) ++ drop (cuts * entrySize) space ≡ put j (entriesIn (linesOf text)) space
+  pub links-put : over links 0 (take count (linksIn (linesOf text))) ≡ settled j links (over links 0 (linksIn (linesOf text)))
+  pub cuts-put : over space 0 (take (cuts * entrySize) (entriesIn (linesOf text))) ≡ settled j space (over space 0 (entriesIn (linesOf text)))
 
 held-by : (text : List ℕ) (links : List Link) (space : List ℕ) (j : Judged) → first (readerRows text (length links) (length space)) ≡ j → (r : Reading) → r ≡ read j (linesOf text)
-    → Held text j links space (linksOf r) (cutsHeld r)
-unfolding read linksOf cutsHeld
+    → Held text j links space (linksRead r) (cutsRead r)
+unfolding read linksRead cutsRead
 held-by text links space Accepted e r q =
     let f = accepted-fits text (length links) (length space) e in
-    let l : linksOf r ≡ length (linksIn (linesOf text)) = ap linksOf q in
-    let c : cutsHeld r * entrySize ≡ length (entriesIn (linesOf text)) = omega (arith, ap cutsHeld q, entries-whole (linesOf text) (f .well)) in
+    let l : linksRead r ≡ length (linksIn (linesOf text)) = ap linksRead q in
+    let c : cutsRead r * entrySize ≡ length (entriesIn (linesOf text)) = omega (arith, ap cutsRead q, entries-whole (linesOf text) (f .well)) in
     record {
       links-ok = record { fits = omega (arith, f .links); whole = λ _. (f .well, sym l) };
       cuts-ok = record { fits = omega (arith, f .entries); whole = λ _. (f .well, sym c) };
-      links-put = put-all (linksIn (linesOf text)) links (linksOf r) l;
-      cuts-put = put-all (entriesIn (linesOf text)) space (cutsHeld r * entrySize) c;
+      links-put = put-all (linksIn (linesOf text)) links (linksRead r) l;
+      cuts-put = put-all (entriesIn (linesOf text)) space (cutsRead r * entrySize) c;
     }
 held-by text links space (Refused number place) e r q =
-    let l : linksOf r ≡ 0 = ap linksOf q in
-    let c : cutsHeld r * entrySize ≡ 0 = omega (arith, ap cutsHeld q) in
+    let l : linksRead r ≡ 0 = ap linksRead q in
+    let c : cutsRead r * entrySize ≡ 0 = omega (arith, ap cutsRead q) in
     record {
       links-ok = record { fits = omega arith; whole = λ h. absurd (omega arith) };
       cuts-ok = record { fits = omega arith; whole = λ h. absurd (omega arith) };
-      links-put = put-none (linksIn (linesOf text)) links (linksOf r) number place l;
-      cuts-put = put-none (entriesIn (linesOf text)) space (cutsHeld r * entrySize) number place c;
+      links-put = put-none (linksIn (linesOf text)) links (linksRead r) number place l;
+      cuts-put = put-none (entriesIn (linesOf text)) space (cutsRead r * entrySize) number place c;
     }
 
 -- storing keeps the size of the room
-pub stored-size : {A : Type 0} (text : List ℕ) (given room : List A) (count : ℕ) → Storable text count (length given) (length room) → length (take count given ++ drop count room) ≡ length room
-stored-size text given room zero s = refl
-stored-size text given room (suc n) s =
-    let w = s .whole (omega arith) in
-    length-append (take (suc n) given) (drop (suc n) room)
-    ∙ omega (arith, length-take-le (suc n) given (omega (arith, w .1)), length-drop (suc n) room, s .fits)
+pub stored-size : {A : Type 0} (text : List ℕ) (given room : List A) (count : ℕ) → Storable text count (length given) (length room) → length (over room 0 (take count given)) ≡ length room
+stored-size text given room count s = length-over room 0 (take count given) (omega (arith, length-take count given, s .fits))
 
 module _ (text : List ℕ) (links : List Link) (space : List ℕ) (r : Reading) (e : r ≡ read (first (readerRows text (length links) (length space))) (linesOf text)) where
-  held : Held text (first (readerRows text (length links) (length space))) links space (linksOf r) (cutsHeld r)
+  held : Held text (first (readerRows text (length links) (length space))) links space (linksRead r) (cutsRead r)
   held = held-by text links space (first (readerRows text (length links) (length space))) refl r e
 
-  pub links-ok : Storable text (linksOf r) (length (linksIn (linesOf text))) (length links)
+  pub links-ok : Storable text (linksRead r) (length (linksIn (linesOf text))) (length links)
   links-ok = held .links-ok
 
-  pub cuts-ok : Storable text (cutsHeld r * entrySize) (length (entriesIn (linesOf text))) (length space)
+  pub cuts-ok : Storable text (cutsRead r * entrySize) (length (entriesIn (linesOf text))) (length space)
   cuts-ok = held .cuts-ok
 
-  pub reads-so : Reads text links (take (linksOf r) (linksIn (linesOf text)) ++ drop (linksOf r) links) space (take (cutsHeld r * entrySize) (entriesIn (linesOf text)) ++ drop (cutsHeld r * entrySize) space) r
+  pub reads-so : Reads text links (over links 0 (take (linksRead r) (linksIn (linesOf text)))) space (over space 0 (take (cutsRead r * entrySize) (entriesIn (linesOf text)))) r
   reads-so = record { answer = e; links-left = held .links-put; record-left = held .cuts-put }

@@ -1,22 +1,23 @@
 -- Laws of putting the links and the entries of a judged text into the room lent for them, one after the other.
 -- Assumes nothing.
-use Prim.Native.Nat.{ℕ, zero, suc, _+_, _*_, _-_, _≤_, _<_}
+use Prim.Native.Nat.{ℕ, zero, suc, _+_, _*_, _≤_, _<_}
 use mathlib.Core.Path.{_≡_, refl, sym, _∙_, ap, ap₂, subst}
 use mathlib.Core.Logic.{_⊎_, inl, inr, ⊎-elim}
 use mathlib.Core.List.{List, [], _∷_, _++_, append-assoc, append-nil}
-use native.Mathlib.Numerals.{add-one}
 use native.Mathlib.Omega.{arith}
 use lib.Dec.{T}
-use lib.ListN.{length, getD, set, take, drop, length-append, length-drop, take-append-drop}
-use lib.Seq.{length-take-le, take-all, drop-cons, append-snoc, take-at, drop-at, drop-drop, set-split}
+use lib.ListN.{length, getD, set, take, drop, length-append}
+use lib.Seq.{take-all, drop-cons}
 use Rattle.meaning.specs.declared.Link.{Link}
+use Rattle.meaning.specs.Room.{over}
+use Rattle.meaning.proofs.Room.{over-nil, over-one, length-over, onto}
 use Rattle.links.specs.Records.{noLink}
 use Rattle.cutting.specs.Record.{entrySize}
 use Rattle.texts.specs.Lines.{Line, linesOf}
 use Rattle.texts.specs.Reader.{linksIn, entriesIn}
 use Rattle.texts.specs.Walk.{byteAt, sizeAt, Well}
 use Rattle.texts.specs.Judging.{allWell}
-use Rattle.texts.specs.Storing.{Skipped, payloadAt, linkAt, LinkAhead, LinkPast, Storable}
+use Rattle.texts.specs.Storing.{Skipped, payloadAt, linkHere, LinkAhead, LinkPast, Storable}
 use Rattle.texts.proofs.Judging.{rest-at}
 use Rattle.texts.proofs.ReadsText.{links-front, link-front, entries-front}
 use Rattle.texts.proofs.ReadsStore.{entry-payload, payload-length, skip-links, skip-entries, skipped-well, skipped-kind, skipped-rest}
@@ -25,22 +26,21 @@ use Rattle.texts.proofs.ReadsStore.{entry-payload, payload-length, skip
 pub record Putting {A : Type 0} (all held old room : List A) (done : ℕ) : Type 0 where
   pub same-size : length room ≡ length old
   pub fits : done + length held ≤ length old
-  pub put-so : take done room ++ held ≡ all
-  pub kept : drop done room ≡ drop done old
+  pub front : List A
+  pub so-many : done ≡ length front
+  pub with-held : front ++ held ≡ all
+  pub put-so : room ≡ over old 0 front
 
 -- at first nothing, and at the end all
 pub putting-none : {A : Type 0} (all old : List A) → length all ≤ length old → Putting all all old old 0
-putting-none all old h = record { same-size = refl; fits = omega arith; put-so = refl; kept = refl }
+putting-none all old h =
+    record { same-size = refl; fits = omega arith; front = []; so-many = refl; with-held = refl; put-so = sym (over-nil old 0) }
 
 pub putting-all : {A : Type 0} (all held old room : List A) (done count : ℕ) → Putting all held old room done → length held ≡ 0 → done ≡ count
-    → room ≡ take count all ++ drop count old
+    → room ≡ over old 0 (take count all)
 putting-all {A} all held old room done count p e c =
-    let none : held ≡ [] = empty held e in
-    let q : take done room ≡ all = sym (append-nil (take done room)) ∙ ap (λ (l : List A). take done room ++ l) (sym none) ∙ p .put-so in
-    let n : length all ≡ done = sym (ap length q) ∙ length-take-le done room (omega (arith, p .fits, p .same-size)) in
-    sym (take-append-drop done room)
-    ∙ ap₂ _++_ (q ∙ sym (take-all done all (omega (arith, n)))) (p .kept)
-    ∙ ap (λ (m : ℕ). take m all ++ drop m old) c
+    let q : p .front ≡ all = sym (append-nil (p .front)) ∙ ap (λ (l : List A). p .front ++ l) (sym (empty held e)) ∙ p .with-held in
+    p .put-so ∙ ap (over old 0) (q ∙ sym (take-all count all (omega (arith, ap length q, p .so-many))))
   where
     empty : (l : List A) → length l ≡ 0 → l ≡ []
     empty [] e = refl
@@ -48,29 +48,16 @@ putting-all {A} all held old room done count p e c =
 
 -- one part more
 pub putting-more : {A : Type 0} (all held held′ old room room′ part : List A) (done done′ : ℕ) → Putting all held old room done → held ≡ part ++ held′
-    → done′ ≡ done + length part → room′ ≡ take done room ++ part ++ drop done′ room → Putting all held′ old room′ done′
+    → done′ ≡ done + length part → room′ ≡ over room done part → Putting all held′ old room′ done′
 putting-more {A} all held held′ old room room′ part done done′ p e d r =
     let sizes : length held ≡ length part + length held′ = ap length e ∙ length-append part held′ in
-    let a : done ≤ length room = omega (arith, p .fits, p .same-size) in
-    let b : done′ ≤ length room = omega (arith, p .fits, p .same-size) in
-    let n : length (take done room ++ part) ≡ done′ = length-append (take done room) part ∙ omega (arith, length-take-le done room a) in
     record {
-      same-size = ap length r ∙ length-append (take done room ++ part) (drop done′ room) ∙ omega (arith, n, length-drop done′ room, p .same-size);
+      same-size = ap length r ∙ length-over room done part (omega (arith, p .fits, p .same-size)) ∙ p .same-size;
       fits = omega (arith, p .fits);
-      put-so =
-          ap (λ (l : List A). take done′ l ++ held′) r
-          ∙ ap (λ (l : List A). l ++ held′) (take-at (take done room ++ part) (drop done′ room) done′ n)
-          ∙ append-assoc (take done room) part held′
-          ∙ ap (λ (l : List A). take done room ++ l) (sym e)
-          ∙ p .put-so;
-      kept =
-          ap (drop done′) r
-          ∙ drop-at (take done room ++ part) (drop done′ room) done′ n
-          ∙ ap (λ (m : ℕ). drop m room) d
-          ∙ sym (drop-drop (length part) done room)
-          ∙ ap (drop (length part)) (p .kept)
-          ∙ drop-drop (length part) done old
-          ∙ ap (λ (m : ℕ). drop m old) (sym d);
+      front = p .front ++ part;
+      so-many = omega (arith, p .so-many, length-append (p .front) part);
+      with-held = append-assoc (p .front) part held′ ∙ ap (λ (l : List A). p .front ++ l) (sym e) ∙ p .with-held;
+      put-so = r ∙ onto old 0 (p .front) part room done (p .put-so) (omega (arith, p .so-many)) (omega (arith, p .fits, p .so-many));
     }
 
 -- how far storing has come: the text from a place on is well formed, and what it holds is still to be put
@@ -111,8 +98,8 @@ module _ (text : List ℕ) (at p : ℕ) (s : Skipped text at 2 p) (more : 0 < le
   pub link-kind : byteAt (drop p text) 0 ≡ 2
   link-kind = skipped-kind text at 2 p s link-lines
 
-  pub link-next : (next : ℕ) → next ≡ p + 2 * sizeAt (drop p text) + 1 → linksIn (linesOf (drop at text)) ≡ linkAt (drop p text) ∷ linksIn (linesOf (drop next text))
-  unfolding linkAt
+  pub link-next : (next : ℕ) → next ≡ p + 2 * sizeAt (drop p text) + 1 → linksIn (linesOf (drop at text)) ≡ linkHere (drop p text) ∷ linksIn (linesOf (drop next text))
+  unfolding linkHere
   link-next next e =
       sym found-links
       ∙ links-front (drop p text) link-well link-kind
@@ -138,7 +125,7 @@ module _ (text : List ℕ) (at p : ℕ) (s : Skipped text at 3 p) (more : 0 < le
       ∙ ap₂ (λ (l : List ℕ) (ls : List Line). l ++ entriesIn ls) (entry-payload (drop p text) cut-well cut-kind) (rest-at text p next e)
 
 -- from a place on: the next link, and the place behind it
-pub link-told : (text : List ℕ) (at p : ℕ) → LinkAhead text at → Skipped text at 2 p → linkAt (drop p text) ≡ getD (linksIn (linesOf (drop at text))) 0 noLink
+pub link-told : (text : List ℕ) (at p : ℕ) → LinkAhead text at → Skipped text at 2 p → linkHere (drop p text) ≡ getD (linksIn (linesOf (drop at text))) 0 noLink
 link-told text at p h s = sym (ap (λ (l : List Link). getD l 0 noLink) (link-next text at p s (h .some) (p + 2 * sizeAt (drop p text) + 1) refl))
 
 pub link-passed : (text : List ℕ) (at p next : ℕ) → LinkAhead text at → Skipped text at 2 p → next ≡ p + 2 * sizeAt (drop p text) + 1 → LinkPast text at next
@@ -169,12 +156,10 @@ module _ (text : List ℕ) (old room : List Link) (count at done : ℕ) (g : Sto
         total = omega (arith, g .total, ap length taken);
         putting =
             putting-more (linksIn (linesOf text)) held (linksIn (linesOf (drop next text))) old room (set room done l) (l ∷ []) done (done + 1) (g .putting) taken refl
-            (set-split room done l i
-            ∙ sym (append-snoc (take done room) l (drop (suc done) room))
-            ∙ ap (λ (n : ℕ). take done room ++ (l ∷ []) ++ drop n room) (sym (add-one done)));
+            (over-one room done l i);
       }
 
-  pub links-end : count ≤ done → room ≡ take count (linksIn (linesOf text)) ++ drop count old
+  pub links-end : count ≤ done → room ≡ over old 0 (take count (linksIn (linesOf text)))
   links-end h = putting-all (linksIn (linesOf text)) (linksIn (linesOf (drop at text))) old room done count (g .putting) (omega (arith, g .total)) (omega (arith, g .total))
 
 -- storing entries: the start, one more, the end
@@ -191,7 +176,7 @@ module _ (text old room : List ℕ) (cuts at done : ℕ) (g : StoringCuts text o
   cuts-room h = omega (arith, g .total, g .putting .fits, g .putting .same-size)
 
   pub cuts-more : done < cuts → (p : ℕ) → Skipped text at 3 p → (next : ℕ) → next ≡ p + 2 * sizeAt (drop p text) + 1 → (room′ : List ℕ)
-      → room′ ≡ take (done * entrySize) room ++ payloadAt (drop p text) entrySize ++ drop (done * entrySize + entrySize) room → StoringCuts text old room′ cuts next (done + 1)
+      → room′ ≡ over room (done * entrySize) (payloadAt (drop p text) entrySize) → StoringCuts text old room′ cuts next (done + 1)
   cuts-more h p s next e room′ r =
       let left = cuts-left h in
       let taken = cut-next text at p s left next e in
@@ -203,11 +188,10 @@ module _ (text old room : List ℕ) (cuts at done : ℕ) (g : StoringCuts text o
         total = omega (arith, g .total, ap length taken, length-append (payloadAt (drop p text) entrySize) (entriesIn (linesOf (drop next text))), payload-length (drop p text) entrySize);
         putting =
             putting-more (entriesIn (linesOf text)) (entriesIn (linesOf (drop at text))) (entriesIn (linesOf (drop next text))) old room room′ (payloadAt (drop p text) entrySize) (done * entrySize) ((done + 1) * entrySize)
-            (g .putting) taken (n ∙ ap (λ (m : ℕ). done * entrySize + m) (sym (payload-length (drop p text) entrySize)))
-            (r ∙ ap (λ (m : ℕ). take (done * entrySize) room ++ payloadAt (drop p text) entrySize ++ drop m room) (sym n));
+            (g .putting) taken (n ∙ ap (λ (m : ℕ). done * entrySize + m) (sym (payload-length (drop p text) entrySize))) r;
       }
 
-  pub cuts-end : cuts ≤ done → room ≡ take (cuts * entrySize) (entriesIn (linesOf text)) ++ drop (cuts * entrySize) old
+  pub cuts-end : cuts ≤ done → room ≡ over old 0 (take (cuts * entrySize) (entriesIn (linesOf text)))
   cuts-end h = putting-all (entriesIn (linesOf text)) (entriesIn (linesOf (drop at text))) old room (done * entrySize) (cuts * entrySize) (g .putting) (omega (arith, g .total)) (omega (arith, g .total))
 
 -- storing, also where nothing is to be stored: then the room is as it was
@@ -224,12 +208,12 @@ none-or-some zero = inl refl
 none-or-some (suc n) = inr (omega arith)
 
 pub cuts-stored : (text old room : List ℕ) (cuts at done : ℕ) → CutsSoFar text old room cuts at done → cuts ≤ done
-    → room ≡ take (cuts * entrySize) (entriesIn (linesOf text)) ++ drop (cuts * entrySize) old
+    → room ≡ over old 0 (take (cuts * entrySize) (entriesIn (linesOf text)))
 cuts-stored text old room cuts at done g h =
     ⊎-elim
     (λ e.
     let z : 0 ≡ cuts * entrySize = omega arith in
-    g .none e ∙ ap (λ (m : ℕ). take m (entriesIn (linesOf text)) ++ drop m old) z)
+    g .none e ∙ sym (over-nil old 0) ∙ ap (λ (m : ℕ). over old 0 (take m (entriesIn (linesOf text)))) z)
     (λ l. cuts-end text old room cuts at done (g .some l) h)
     (none-or-some cuts)
 
@@ -237,10 +221,10 @@ pub cuts-same-size : (text old room : List ℕ) (cuts at done : ℕ) → CutsSoF
 cuts-same-size text old room cuts at done g = ⊎-elim (λ e. ap length (g .none e)) (λ l. g .some l .putting .same-size) (none-or-some cuts)
 
 pub links-stored : (text : List ℕ) (old room : List Link) (count at done : ℕ) → LinksSoFar text old room count at done → count ≤ done
-    → room ≡ take count (linksIn (linesOf text)) ++ drop count old
+    → room ≡ over old 0 (take count (linksIn (linesOf text)))
 links-stored text old room count at done g h =
     ⊎-elim
-    (λ e. g .none e ∙ ap (λ (m : ℕ). take m (linksIn (linesOf text)) ++ drop m old) (sym e))
+    (λ e. g .none e ∙ sym (over-nil old 0) ∙ ap (λ (m : ℕ). over old 0 (take m (linksIn (linesOf text)))) (sym e))
     (λ l. links-end text old room count at done (g .some l) h)
     (none-or-some count)
 

@@ -1,18 +1,20 @@
 -- Laws of the storing pass: frames found again in a judged text, and the entries put into the record space one behind the other.
 -- Assumes nothing.
-use Prim.Native.Nat.{ℕ, zero, suc, _+_, _*_, _-_, _≤_, _<_}
+use Prim.Native.Nat.{ℕ, zero, suc, _+_, _*_, _≤_, _<_}
 use mathlib.Core.Path.{_≡_, refl, sym, _∙_, ap, ap₂, subst}
 use mathlib.Core.Logic.{⊎-elim}
 use mathlib.Core.Bool.{Bool, true, false, cond, _&&_}
-use mathlib.Core.List.{List, [], _∷_, _++_, append-assoc, append-nil}
-use native.Mathlib.Nat.{add-zero, eq-or-lt-of-le, le-of-suc-le-suc}
+use mathlib.Core.List.{List, [], _∷_, _++_}
+use native.Mathlib.Nat.{eq-or-lt-of-le, le-of-suc-le-suc}
 use native.Mathlib.Numerals.{add-one}
 use native.Mathlib.Omega.{arith}
 use borrow.Author.Tests.{eq-eqb, ne-eqb}
 use lib.Dec.{T, eqb, eqb→eq}
-use lib.ListN.{length, getD, set, take, drop, length-append, length-drop, take-append-drop, drop-of-length-le, List·getD-append}
-use lib.Seq.{length-take-le, drop-cons, append-snoc, set-at, ext-getD, getD-at}
+use lib.ListN.{length, getD, set, drop, length-append, length-drop, drop-of-length-le, List·getD-append}
+use lib.Seq.{ext-getD, getD-at}
 use Rattle.meaning.proofs.Tests.{left-of, right-of}
+use Rattle.meaning.specs.Room.{over}
+use Rattle.meaning.proofs.Room.{over-nil, over-next, length-over}
 use Rattle.cutting.specs.Record.{entrySize}
 use Rattle.frames.specs.Frame.{wellFormed}
 use Rattle.texts.specs.Lines.{Line, linesOf, kind}
@@ -113,37 +115,25 @@ entry-payload cs w e =
     let l : i < entrySize = omega (arith, entry-length cs w e) in
     entry-at cs w e i l ∙ ap (byteAt cs) (omega arith) ∙ sym (payload-at cs entrySize i l))
 
--- bytes put into room from a place on, the rest as it was
-abbrev pub stored : List ℕ → List ℕ → ℕ → ℕ → List ℕ
-stored cs space to i = take to space ++ payloadAt cs i ++ drop (to + i) space
-
-front-length-of : (cs space : List ℕ) (to i : ℕ) → to ≤ length space → length (take to space ++ payloadAt cs i) ≡ to + i
-front-length-of cs space to i h = omega (arith, length-append (take to space) (payloadAt cs i), length-take-le to space h, payload-length cs i)
-
+-- the first bytes of a payload at a place of lent room
 payload-next : (cs : List ℕ) (i : ℕ) → payloadAt cs i ++ byteAt cs (i + 1) ∷ [] ≡ payloadAt cs (i + 1)
 unfolding payloadAt
 payload-next cs i = rw add-one
 
-pub stored-none : (cs space : List ℕ) (to : ℕ) → space ≡ stored cs space to 0
+pub stored-none : (cs space : List ℕ) (to : ℕ) → space ≡ over space to (payloadAt cs 0)
 unfolding payloadAt
-stored-none cs space to =
-    sym (ap₂ (λ (l : List ℕ) (n : ℕ). l ++ drop n space) (append-nil (take to space)) (add-zero to) ∙ take-append-drop to space)
+stored-none cs space to = sym (over-nil space to)
 
-pub stored-more : (cs space : List ℕ) (to i b : ℕ) → to + i < length space → b ≡ byteAt cs (i + 1) → set (stored cs space to i) (to + i) b ≡ stored cs space to (i + 1)
-unfolding payloadAt
+pub stored-more : (cs space : List ℕ) (to i b : ℕ) → to + i < length space → b ≡ byteAt cs (i + 1)
+    → set (over space to (payloadAt cs i)) (to + i) b ≡ over space to (payloadAt cs (i + 1))
 stored-more cs space to i b h e =
-    let p = take to space ++ payloadAt cs i in
-    let q : suc (to + i) ≡ to + (i + 1) = omega arith in
-    ap (λ (l : List ℕ). set (p ++ l) (to + i) b) (drop-cons space (to + i) 0 h)
-    ∙ set-at p (getD space (to + i) 0) (drop (suc (to + i)) space) b (to + i) (front-length-of cs space to i (omega arith))
-    ∙ ap₂ (λ (x n : ℕ). p ++ x ∷ drop n space) e q
-    ∙ sym (append-snoc p (byteAt cs (i + 1)) (drop (to + (i + 1)) space))
-    ∙ ap (λ (l : List ℕ). l ++ drop (to + (i + 1)) space)
-    (append-assoc (take to space) (payloadAt cs i) (byteAt cs (i + 1) ∷ []) ∙ ap (λ (l : List ℕ). take to space ++ l) (payload-next cs i))
+    let long = payload-length cs i in
+    ap₂ (λ (m x : ℕ). set (over space to (payloadAt cs i)) (to + m) x) (sym long) e
+    ∙ over-next space to (payloadAt cs i) (byteAt cs (i + 1)) (omega arith)
+    ∙ ap (over space to) (payload-next cs i)
 
-pub stored-length : (cs space : List ℕ) (to i : ℕ) → to + i ≤ length space → length (stored cs space to i) ≡ length space
-stored-length cs space to i h =
-    omega (arith, length-append (take to space ++ payloadAt cs i) (drop (to + i) space), front-length-of cs space to i (omega arith), length-drop (to + i) space)
+pub stored-length : (cs space : List ℕ) (to i : ℕ) → to + i ≤ length space → length (over space to (payloadAt cs i)) ≡ length space
+stored-length cs space to i h = length-over space to (payloadAt cs i) (omega (arith, payload-length cs i))
 
 -- the frame that was found: of that kind, with nothing of it passed over
 headKind : ℕ → List Line → ℕ

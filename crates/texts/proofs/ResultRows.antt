@@ -14,7 +14,7 @@ use Rattle.meaning.specs.Tally.{pairTally}
 use Rattle.links.specs.Links.{tableRows}
 use Rattle.links.specs.Records.{firstOf}
 use Rattle.cutting.specs.RecordRows.{recordRows}
-use Rattle.texts.specs.Reader.{put}
+use Rattle.meaning.specs.Room.{settled}
 use Rattle.texts.specs.declared.Written.{Written}
 use Rattle.texts.specs.declared.Written.the-variants.{Refused as Refused·written}
 use Rattle.texts.specs.Writing.{wrote, Writes}
@@ -23,7 +23,7 @@ use Rattle.texts.specs.Writers.{resultText, resultRows}
 
 -- a writer after rows that were judged before
 pub writes-refused : (i j : Judged) (text room : List ℕ) {number place : ℕ} → i ≡ Refused number place → Writes (firstOf i j) text room room (Refused·written number place)
-unfolding firstOf wrote put
+unfolding firstOf wrote settled
 writes-refused i j text room e = rw e (record { answer = refl; text-left = refl })
 
 pub writes-after : (i j : Judged) (text room room′ : List ℕ) (r : Written) → i ≡ Accepted → Writes j text room room′ r → Writes (firstOf i j) text room room′ r

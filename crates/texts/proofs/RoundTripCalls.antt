@@ -1,18 +1,19 @@
 -- The round trips over the promises of the reader and the input writer.
 -- Assumes nothing.
-use Prim.Native.Nat.{ℕ, _+_, _*_, _-_, _/_, _%_, _≤_}
+use Prim.Native.Nat.{ℕ, _*_, _-_, _/_, _%_, _≤_}
 use mathlib.Core.Path.{_≡_, refl, sym, _∙_, ap, ap₂, subst}
 use mathlib.Core.Bool.{true, not, _||_}
-use mathlib.Core.List.{List, [], _++_}
+use mathlib.Core.List.{List, []}
 use native.Mathlib.Omega.{arith}
 use borrow.Author.Tests.{le-ltb}
 use lib.Dec.{T, eqb, ltb, nltb→le, eqb→eq}
-use lib.ListN.{length, take, drop}
-use lib.Seq.{take-append-seam}
+use lib.ListN.{length, take}
 use Rattle.meaning.specs.declared.Link.{Link}
 use Rattle.meaning.specs.declared.Judged.{Judged}
 use Rattle.meaning.specs.declared.Judged.the-variants.{Accepted, Refused}
 use Rattle.meaning.specs.Judge.{first}
+use Rattle.meaning.specs.Room.{over, settled}
+use Rattle.meaning.proofs.Room.{settled-new, take-front}
 use Rattle.meaning.proofs.Tests.{fails, taut, so, _⊃_}
 use Rattle.links.specs.Links.{countRows, linksRows, tableRows}
 use Rattle.links.proofs.LinksRows.{first-accepted, accepted-left, accepted-right, counts-accepted}
@@ -21,10 +22,10 @@ use Rattle.cutting.specs.RecordRows.{recordRow}
 use Rattle.texts.specs.declared.Reading.{Reading}
 use Rattle.texts.specs.declared.Reading.the-variants.{Got}
 use Rattle.texts.specs.declared.Written.{Written}
-use Rattle.texts.specs.declared.Written.the-variants.{Bytes as Wrote}
+use Rattle.texts.specs.declared.Written.the-variants.{Wrote}
 use Rattle.frames.specs.declared.stage.Stage.the-variants.{Opening}
 use Rattle.texts.specs.Lines.{Line, linesOf, lineRows}
-use Rattle.texts.specs.Reader.{linksIn, entriesIn, bonesIn, thresholdIn, readerRows, read, put, Reads}
+use Rattle.texts.specs.Reader.{linksIn, entriesIn, bonesIn, thresholdIn, readerRows, read, Reads}
 use Rattle.texts.specs.Writing.{wrote, Writes}
 use Rattle.texts.specs.Inputs.{inputText, inputRows}
 use Rattle.texts.specs.Writers.{unnoted}
@@ -94,8 +95,8 @@ module _ (n k : ℕ) (links : List Link) (bytes : List ℕ) (room : ℕ) (a : Ac
 
 -- a writer that gives a count has accepted, and left its text at the front
 did-write : (j : Judged) (text room room′ : List ℕ) (count : ℕ) → Writes j text room room′ (Wrote count)
-    → (j ≡ Accepted) × (count ≡ length text) × (room′ ≡ text ++ drop (length text) room)
-unfolding wrote put
+    → (j ≡ Accepted) × (count ≡ length text) × (room′ ≡ over room 0 text)
+unfolding wrote settled
 did-write Accepted text room room′ count w = let e = w .answer in (refl, cc, w .text-left)
 did-write (Refused number place) text room room′ count w =
     let e = w .answer in
@@ -104,22 +105,22 @@ did-write (Refused number place) text room room′ count w =
 
 -- and one that has accepted gives its text's length
 does-write : (j : Judged) (text room room′ : List ℕ) (r : Written) → Writes j text room room′ r → j ≡ Accepted
-    → (r ≡ Wrote (length text)) × (room′ ≡ text ++ drop (length text) room)
-unfolding wrote put
+    → (r ≡ Wrote (length text)) × (room′ ≡ over room 0 text)
+unfolding wrote
 does-write j text room room′ r w e =
-    (w .answer ∙ ap (λ (x : Judged). wrote x (length text)) e, w .text-left ∙ ap (λ (x : Judged). put x text room) e)
+    (w .answer ∙ ap (λ (x : Judged). wrote x (length text)) e, w .text-left ∙ settled-new room _ e)
 
 -- what a reader gives that has accepted
 did-read : (text : List ℕ) (links links′ : List Link) (space space′ : List ℕ) (r : Reading) → Reads text links links′ space space′ r
     → first (readerRows text (length links) (length space)) ≡ Accepted
     → (r ≡ Got (bonesIn (linesOf text)) (thresholdIn (linesOf text)) (length (linksIn (linesOf text))) (length (entriesIn (linesOf text)) / entrySize))
-    × (links′ ≡ linksIn (linesOf text) ++ drop (length (linksIn (linesOf text))) links)
-    × (space′ ≡ entriesIn (linesOf text) ++ drop (length (entriesIn (linesOf text))) space)
-unfolding read put
+    × (links′ ≡ over links 0 (linksIn (linesOf text)))
+    × (space′ ≡ over space 0 (entriesIn (linesOf text)))
+unfolding read
 did-read text links links′ space space′ r s e = (
   s .answer ∙ ap (λ (x : Judged). read x (linesOf text)) e,
-  s .links-left ∙ ap (λ (x : Judged). put x (linksIn (linesOf text)) links) e,
-  s .record-left ∙ ap (λ (x : Judged). put x (entriesIn (linesOf text)) space) e,
+  s .links-left ∙ settled-new links _ e,
+  s .record-left ∙ settled-new space _ e,
 )
 
 -- a reader that gives numbers has accepted
@@ -136,13 +137,13 @@ pub write-read : (n k : ℕ) (links : List Link) (bytes room room′ : List ℕ)
     → length bytes ≤ length space
     → Reads (take count room′) linkSpace linkSpace′ space space′ r
     → (r ≡ Got n k (length links) (length bytes / entrySize))
-    × (linkSpace′ ≡ links ++ drop (length links) linkSpace)
-    × (space′ ≡ bytes ++ drop (length bytes) space)
+    × (linkSpace′ ≡ over linkSpace 0 links)
+    × (space′ ≡ over space 0 bytes)
 write-read n k links bytes room room′ count s f w linkSpace linkSpace′ space space′ r h g reads =
     let text = inputText n k links bytes in
     let d = did-write _ text room room′ count w in
     let a = accepts n k links bytes (length room) s f (d .0) in
-    let same : take count room′ ≡ text = ap₂ take (d .1) (d .2) ∙ take-append-seam text (drop (length text) room) in
+    let same : take count room′ ≡ text = ap (take count) (d .2) ∙ take-front room text count (d .1) in
     let again = accepted-again n k links bytes (length room) a (length linkSpace) (length space) h g in
     let back = did-read text linkSpace linkSpace′ space space′ r (subst (λ (t : List ℕ). Reads t linkSpace linkSpace′ space space′ r) same reads) again in
     let ls = links-back n k links bytes (a .fits) in
@@ -150,8 +151,8 @@ write-read n k links bytes room room′ count s f w linkSpace linkSpace′ space
       back .0
           ∙ ap₂ (λ (x y : ℕ). Got x y (length (linksIn (linesOf text))) (length (entriesIn (linesOf text)) / entrySize)) (bones-back n k links bytes (a .fits)) (threshold-back n k links bytes (a .fits))
           ∙ ap₂ (λ (xs : List Link) (ys : List ℕ). Got n k (length xs) (length ys / entrySize)) ls es,
-      back .1 ∙ ap (λ (xs : List Link). xs ++ drop (length xs) linkSpace) ls,
-      back .2 ∙ ap (λ (xs : List ℕ). xs ++ drop (length xs) space) es,
+      back .1 ∙ ap (over linkSpace 0) ls,
+      back .2 ∙ ap (over space 0) es,
     )
 
 -- a text that the reader accepts passes rows 16 to 19
@@ -167,7 +168,7 @@ pub read-write : (text : List ℕ) (linkSpace linkSpace′ : List Link) (space s
     → (room room′ : List ℕ) (r : Written)
     → first (inputRows n k (take l linkSpace′) (take (entrySize * c) space′) (length room)) ≡ Accepted
     → Writes (first (inputRows n k (take l linkSpace′) (take (entrySize * c) space′) (length room))) (inputText n k (take l linkSpace′) (take (entrySize * c) space′)) room room′ r
-    → (r ≡ Wrote (length text)) × (room′ ≡ text ++ drop (length text) room)
+    → (r ≡ Wrote (length text)) × (room′ ≡ over room 0 text)
 read-write text linkSpace linkSpace′ space space′ n k l c reads t room room′ r e w =
     let ls = linesOf text in
     let yes = got-by _ ls n k l c (reads .answer) in
@@ -180,11 +181,11 @@ read-write text linkSpace linkSpace′ space space′ n k l c reads t room room�
     let rows = lines-accepted text (length linkSpace) (length space) yes in
     let whole = entries-whole Opening 0 ls rows in
     let size : entrySize * c ≡ length (entriesIn ls) = omega arith in
-    let links-are : take l linkSpace′ ≡ linksIn ls = ap₂ take l-is (back .1) ∙ take-append-seam (linksIn ls) (drop (length (linksIn ls)) linkSpace) in
-    let entries-are : take (entrySize * c) space′ ≡ entriesIn ls = ap₂ take size (back .2) ∙ take-append-seam (entriesIn ls) (drop (length (entriesIn ls)) space) in
+    let links-are : take l linkSpace′ ≡ linksIn ls = ap (take l) (back .1) ∙ take-front linkSpace (linksIn ls) l l-is in
+    let entries-are : take (entrySize * c) space′ ≡ entriesIn ls = ap (take (entrySize * c)) (back .2) ∙ take-front space (entriesIn ls) (entrySize * c) size in
     let same : inputText n k (take l linkSpace′) (take (entrySize * c) space′) ≡ text
     = ap₂ (λ (x y : ℕ). inputText x y (take l linkSpace′) (take (entrySize * c) space′)) n-is k-is
     ∙ ap₂ (inputText (bonesIn ls) (thresholdIn ls)) links-are entries-are
     ∙ sym (text-back text rows t) in
     let d = does-write _ _ room room′ r w e in
-    (d .0 ∙ ap (λ (x : List ℕ). Wrote (length x)) same, d .1 ∙ ap (λ (x : List ℕ). x ++ drop (length x) room) same)
+    (d .0 ∙ ap (λ (x : List ℕ). Wrote (length x)) same, d .1 ∙ ap (over room 0) same)

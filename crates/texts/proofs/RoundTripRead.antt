@@ -102,6 +102,9 @@ module _ (stage : Stage) (i : ℕ) (l : Line) (ls : List Line) (p : Passed stage
   unfolding frame kind
   frame-long = well-parts (l .characters) (p .well) .2
 
+  frame-of : (k : ℕ) → kind l ≡ k → length (frame l) ≡ getD payloads k 0 + 2
+  frame-of k e = frame-long ∙ ap (λ (x : ℕ). getD payloads x 0 + 2) e
+
   line-back : joined (l ∷ ls) ≡ line (kind l) (take (getD payloads (kind l) 0) (drop 1 (frame l))) ++ joined ls
   unfolding joined frame kind
   line-back =
@@ -111,7 +114,7 @@ module _ (stage : Stage) (i : ℕ) (l : Line) (ls : List Line) (p : Passed stage
   head-back : kind l ≡ 1 → joined (l ∷ ls) ≡ headLine (getD (frame l) 1 0) (pair l 2) ++ joined ls
   unfolding headLine pair
   head-back e =
-      let size : length (frame l) ≡ 5 = frame-long ∙ ap (λ (x : ℕ). getD payloads x 0 + 2) e in
+      let size = frame-of 1 e in
       line-back
       ∙ ap (λ (x : ℕ). line x (take (getD payloads x 0) (drop 1 (frame l))) ++ joined ls) e
       ∙ ap (λ (xs : List ℕ). line 1 xs ++ joined ls)
@@ -120,7 +123,7 @@ module _ (stage : Stage) (i : ℕ) (l : Line) (ls : List Line) (p : Passed stage
   link-back : kind l ≡ 2 → joined (l ∷ ls) ≡ linkLine (linkIn l) ++ joined ls
   unfolding linkLine linkIn pair
   link-back e =
-      let size : length (frame l) ≡ 6 = frame-long ∙ ap (λ (x : ℕ). getD payloads x 0 + 2) e in
+      let size = frame-of 2 e in
       line-back
       ∙ ap (λ (x : ℕ). line x (take (getD payloads x 0) (drop 1 (frame l))) ++ joined ls) e
       ∙ ap (λ (xs : List ℕ). line 2 xs ++ joined ls)
@@ -130,7 +133,7 @@ module _ (stage : Stage) (i : ℕ) (l : Line) (ls : List Line) (p : Passed stage
   entry-long : kind l ≡ 3 → length (entryIn l) ≡ entrySize
   unfolding entryIn
   entry-long e =
-      let size : length (frame l) ≡ 23 = frame-long ∙ ap (λ (x : ℕ). getD payloads x 0 + 2) e in
+      let size = frame-of 3 e in
       length-take-le entrySize (drop 1 (frame l)) (omega (arith, length-drop 1 (frame l)))
 
   entry-back : kind l ≡ 3 → joined (l ∷ ls) ≡ line 3 (entryIn l) ++ joined ls
@@ -145,7 +148,7 @@ module _ (stage : Stage) (i : ℕ) (l : Line) (ls : List Line) (p : Passed stage
   close-back : kind l ≡ 6 → joined (l ∷ ls) ≡ closeLine i ++ joined ls
   unfolding closeLine pair
   close-back e =
-      let size : length (frame l) ≡ 4 = frame-long ∙ ap (λ (x : ℕ). getD payloads x 0 + 2) e in
+      let size = frame-of 6 e in
       line-back
       ∙ ap (λ (x : ℕ). line x (take (getD payloads x 0) (drop 1 (frame l))) ++ joined ls) e
       ∙ ap (λ (xs : List ℕ). line 6 xs ++ joined ls)

@@ -3,23 +3,25 @@
 -- Assumes nothing.
 use Prim.Native.Nat.{ℕ, _+_, _*_, _/_, _≤_}
 use mathlib.Core.Path.{_≡_, sym, _∙_}
-use mathlib.Core.List.{List, _++_}
+use mathlib.Core.List.{List}
 use lib.Dec.{T}
-use lib.ListN.{length, take, drop}
+use lib.ListN.{length, take}
 use Rattle.meaning.specs.declared.Link.{Link}
 use Rattle.meaning.specs.declared.Judged.{Judged}
 use Rattle.meaning.specs.declared.Judged.the-variants.{Accepted}
 use Rattle.meaning.specs.Judge.{first}
+use Rattle.meaning.specs.Room.{over}
 use Rattle.cutting.specs.Record.{entrySize}
 use Rattle.texts.specs.declared.Reading.{Reading}
 use Rattle.texts.specs.declared.Reading.the-variants.{Got}
 use Rattle.texts.specs.declared.Written.{Written}
-use Rattle.texts.specs.declared.Written.the-variants.{Bytes as Wrote}
+use Rattle.texts.specs.declared.Written.the-variants.{Wrote}
 use Rattle.texts.specs.Lines.{linesOf}
 use Rattle.texts.specs.Reader.{linksIn, entriesIn, bonesIn, thresholdIn, readerRows, Reads}
 use Rattle.texts.specs.Writing.{Writes}
 use Rattle.texts.specs.Inputs.{inputText, inputRows}
 use Rattle.texts.specs.Writers.{resultText, unnoted}
+use Rattle.texts.specs.Steps.{inputSize, resultSize}
 use Rattle.meaning.specs.Bytes.{Bytes}
 use Rattle.texts.proofs.WritesLinks.{length-input}
 use Rattle.texts.proofs.WritesTexts.{length-result}
@@ -35,8 +37,8 @@ pub written-then-read : (n k : ℕ) (links : List Link) (bytes room room′ : Li
     → length bytes ≤ length space
     → Reads (take count room′) linkSpace linkSpace′ space space′ r
     → (r ≡ Got n k (length links) (length bytes / entrySize))
-    × (linkSpace′ ≡ links ++ drop (length links) linkSpace)
-    × (space′ ≡ bytes ++ drop (length bytes) space)
+    × (linkSpace′ ≡ over linkSpace 0 links)
+    × (space′ ≡ over space 0 bytes)
 written-then-read = write-read
 
 -- a text without notes whose contents the input writer accepts, read and written again, is the same text
@@ -46,7 +48,7 @@ pub read-then-written : (text : List ℕ) (linkSpace linkSpace′ : List Link) (
     → (room room′ : List ℕ) (r : Written)
     → first (inputRows n k (take l linkSpace′) (take (entrySize * c) space′) (length room)) ≡ Accepted
     → Writes (first (inputRows n k (take l linkSpace′) (take (entrySize * c) space′) (length room))) (inputText n k (take l linkSpace′) (take (entrySize * c) space′)) room room′ r
-    → (r ≡ Wrote (length text)) × (room′ ≡ text ++ drop (length text) room)
+    → (r ≡ Wrote (length text)) × (room′ ≡ over room 0 text)
 read-then-written = read-write
 
 -- a text without notes that the reader accepts is the input text of what is read from it, whatever its numbers
@@ -67,8 +69,8 @@ pub one-writing : (j : Judged) (text room room₁ room₂ : List ℕ) (r s : Wri
 one-writing j text room room₁ room₂ r s a b = (a .answer ∙ sym (b .answer), a .text-left ∙ sym (b .text-left))
 
 -- how long the texts are
-pub input-length : (n k : ℕ) (links : List Link) (bytes : List ℕ) → length (inputText n k links bytes) ≡ 20 + 13 * length links + 47 * (length bytes / entrySize)
+pub input-length : (n k : ℕ) (links : List Link) (bytes : List ℕ) → length (inputText n k links bytes) ≡ inputSize (length links) (length bytes / entrySize)
 input-length = length-input
 
-pub result-length : (n k : ℕ) (bytes : List ℕ) → length (resultText n k bytes) ≡ 20 + 47 * (length bytes / entrySize) + 9 * n
+pub result-length : (n k : ℕ) (bytes : List ℕ) → length (resultText n k bytes) ≡ resultSize (length bytes / entrySize) n
 result-length = length-result

@@ -8,36 +8,36 @@ use native.Mathlib.Omega.{arith}
 use lib.ListN.{length, getD, take, length-append}
 use lib.Seq.{length-take-le, take-suc, take-length}
 use Rattle.meaning.specs.declared.Link.{Link}
-use Rattle.meaning.specs.declared.Judged.the-variants.{Accepted}
 use Rattle.links.specs.Records.{noLink}
 use Rattle.cutting.specs.Record.{entrySize}
 use Rattle.texts.specs.Kinds.{headLine, linkLine, linkLines, cutLines, closeLine}
 use Rattle.texts.specs.Inputs.{inputText}
-use Rattle.frames.specs.Placing.{over}
+use Rattle.meaning.specs.Room.{over}
 use Rattle.texts.specs.Steps.{inputSize, around}
-use Rattle.frames.proofs.Writes.{over-nil, length-over, onto, before}
+use Rattle.meaning.proofs.Room.{over-nil, length-over, onto, before}
+use Rattle.frames.specs.Frame.{lineSize}
 use Rattle.texts.proofs.WritesLines.{length-head, length-links, length-cuts, length-close, links-more}
 
 -- the room after the first i links
 abbrev pub linked : List ℕ → List Link → ℕ → List ℕ
-linked room links i = over room 11 (linkLines (take i links))
+linked room links i = over room (lineSize 1) (linkLines (take i links))
 
 module _ (room : List ℕ) (links : List Link) where
   pub linked-none : room ≡ linked room links 0
   unfolding linkLines
-  linked-none = sym (over-nil room 11)
+  linked-none = sym (over-nil room (lineSize 1))
 
-  first-long : (i : ℕ) → i ≤ length links → length (linkLines (take i links)) ≡ 13 * i
-  first-long i h = length-links (take i links) ∙ ap (λ (m : ℕ). 13 * m) (length-take-le i links h)
+  first-long : (i : ℕ) → i ≤ length links → length (linkLines (take i links)) ≡ lineSize 2 * i
+  first-long i h = length-links (take i links) ∙ ap (λ (m : ℕ). lineSize 2 * m) (length-take-le i links h)
 
-  module _ (count : ℕ) (few : count ≤ length links) (fits : 0 < count → 11 + 13 * count ≤ length room) where
+  module _ (count : ℕ) (few : count ≤ length links) (fits : 0 < count → lineSize 1 + lineSize 2 * count ≤ length room) where
     pub linked-more : (i : ℕ) → i < count
-        → over (linked room links i) (11 + 13 * i) (linkLine (getD links i noLink)) ≡ linked room links (i + 1)
+        → over (linked room links i) (lineSize 1 + lineSize 2 * i) (linkLine (getD links i noLink)) ≡ linked room links (i + 1)
     linked-more i h =
         let f = fits (omega arith) in
         let long = first-long i (omega arith) in
-        onto room 11 (linkLines (take i links)) (linkLine (getD links i noLink)) _ (11 + 13 * i) refl (omega arith) (omega arith)
-        ∙ ap (over room 11)
+        onto room (lineSize 1) (linkLines (take i links)) (linkLine (getD links i noLink)) _ (lineSize 1 + lineSize 2 * i) refl (omega arith) (omega arith)
+        ∙ ap (over room (lineSize 1))
         (sym (links-more (take i links) (getD links i noLink))
         ∙ ap linkLines (sym (take-suc links i noLink (omega arith)) ∙ ap (λ (m : ℕ). take m links) (sym (add-one i))))
 
@@ -45,13 +45,13 @@ module _ (room : List ℕ) (links : List Link) where
     linked-long zero h = ap length (sym linked-none)
     linked-long (suc i) h =
         let f = fits (omega arith) in
-        length-over room 11 (linkLines (take (suc i) links)) (omega (arith, first-long (suc i) (omega arith)))
+        length-over room (lineSize 1) (linkLines (take (suc i) links)) (omega (arith, first-long (suc i) (omega arith)))
 
-    pub linked-room : (i : ℕ) → i < count → 11 + 13 * i + 13 ≤ length (linked room links i)
+    pub linked-room : (i : ℕ) → i < count → lineSize 1 + lineSize 2 * i + lineSize 2 ≤ length (linked room links i)
     linked-room i h = let f = fits (omega arith) in omega (arith, linked-long i (omega arith))
 
 -- the length of an input text
-pub length-input : (n k : ℕ) (links : List Link) (bytes : List ℕ) → length (inputText n k links bytes) ≡ 20 + 13 * length links + 47 * (length bytes / entrySize)
+pub length-input : (n k : ℕ) (links : List Link) (bytes : List ℕ) → length (inputText n k links bytes) ≡ inputSize (length links) (length bytes / entrySize)
 unfolding inputText
 length-input n k links bytes =
     simp length-append
@@ -65,7 +65,7 @@ length-input n k links bytes =
 
 -- the frames around the links, and the links between them, are the input text
 module _ (n k : ℕ) (links : List Link) (bytes room : List ℕ) (fits : inputSize (length links) (length bytes / entrySize) ≤ length room) where
-  pub between : linked (around Accepted n k (length links) bytes room) links (length links) ≡ over room 0 (inputText n k links bytes)
+  pub between : linked (around n k (length links) bytes room) links (length links) ≡ over room 0 (inputText n k links bytes)
   unfolding around inputText
   between =
       let m = length bytes / entrySize in
@@ -81,9 +81,9 @@ module _ (n k : ℕ) (links : List Link) (bytes room : List ℕ) (fits : inputSi
       let l₅ = length-append cuts close in
       let first : List ℕ = over room 0 head in
       let l₆ : length first ≡ length room = length-over room 0 head (omega arith) in
-      ap (λ (xs : List Link). over (over first (11 + 13 * count) (cuts ++ close)) 11 (linkLines xs)) (take-length links)
-      ∙ before first (11 + 13 * count) 11 lines (cuts ++ close) (omega arith) (omega arith)
-      ∙ onto room 0 head (lines ++ (cuts ++ close)) first 11 refl (omega arith) (omega arith)
+      ap (λ (xs : List Link). over (over first (lineSize 1 + lineSize 2 * count) (cuts ++ close)) (lineSize 1) (linkLines xs)) (take-length links)
+      ∙ before first (lineSize 1 + lineSize 2 * count) (lineSize 1) lines (cuts ++ close) (omega arith) (omega arith)
+      ∙ onto room 0 head (lines ++ (cuts ++ close)) first (lineSize 1) refl (omega arith) (omega arith)
       ∙ ap (over room 0) (regroup head lines cuts close)
     where
       regroup : (a b c d : List ℕ) → a ++ (b ++ (c ++ d)) ≡ a ++ b ++ c ++ d

@@ -34,8 +34,9 @@ use Rattle.links.proofs.RecordsLink.{R, val, IsLink, made}
 use Rattle.links.proofs.RecordsCalls.{calls-to}
 use Rattle.links.proofs.RecordsAgain.{LentAgain, lends-again, comes-back}
 use Rattle.texts.specs.Kinds.{linkLine}
-use Rattle.frames.specs.Placing.{over}
-use Rattle.frames.proofs.Writes.{length-over}
+use Rattle.meaning.specs.Room.{over}
+use Rattle.meaning.proofs.Room.{length-over}
+use Rattle.frames.specs.Frame.{lineSize}
 use Rattle.texts.proofs.WritesLent.{OwnText, textRef}
 use Rattle.texts.proofs.WritesLines.{length-link}
 use Rattle.texts.proofs.input.put_record as f
@@ -52,12 +53,12 @@ module _ (b o : ℕ) where
 
 module _ {M : Type 1} {𝓤 : URA M} {H : Heap 𝓤} {A : Atoms 𝓤} {K : Type 0} {W : Given 𝓤 H A} {Γ : List (Item 𝓤)} {E : Env 𝓤 H} {C : Calls 𝓤 H} {Λ : Loops 𝓤 H} {xs : List Operand} {post : Post 𝓤 H} {d : Place} {rest : Body} where
   pub calls-put : K → (mem : Memory → SProp 𝓤) (run : Routine → Fun 𝓤) → FmC 𝓤 H (W .laws) C → {b o : ℕ} → Triple 𝓤 (C #put-record) (PutRecord b o 𝓤 H A mem run) → {κ : Lft} {q : Share} {γ : GName} (n : ℕ) (zs : List ℕ) (i : ℕ) (l : Link)
-      → length zs ≡ n → Room u8 n → i < 2 ^ 64 → IsLink l → 11 + 13 * i + 13 ≤ length zs
+      → length zs ≡ n → Room u8 n → i < 2 ^ 64 → IsLink l → lineSize 1 + lineSize 2 * i + lineSize 2 ≤ length zs
       → ((α : ℕ) (δ : GName) → Opds K W (raw (PutRecord b o 𝓤 H A mem run .pre (to-put b o 𝓤 H A mem run α δ zs i l)) ∷ ‵ (LentAgain u8 κ (α ∷ []) q γ b o δ zs) ∷ Γ) E xs (sliceVal (b, o) n ∷ vint w64 i ∷ val l ∷ []))
-      → Step K W (‵ (OwnText b o κ γ n (over zs (11 + 13 * i) (linkLine l))) ∷ ‵ (flft κ q) ∷ Γ) (lands C Λ E d vunit rest post) (‵ (OwnText b o κ γ n zs) ∷ ‵ (flft κ q) ∷ Γ) (runs C Λ E (seq (call #put-record xs d) rest) post)
+      → Step K W (‵ (OwnText b o κ γ n (over zs (lineSize 1 + lineSize 2 * i) (linkLine l))) ∷ ‵ (flft κ q) ∷ Γ) (lands C Λ E d vunit rest post) (‵ (OwnText b o κ γ n zs) ∷ ‵ (flft κ q) ∷ Γ) (runs C Λ E (seq (call #put-record xs d) rest) post)
   calls-put tk mem run fm {b} {o} known {κ} {q} {γ} n zs i l en room gi is fits os =
-      let new = over zs (11 + 13 * i) (linkLine l) in
-      let same : length new ≡ length zs = length-over zs (11 + 13 * i) (linkLine l) (omega (arith, length-link l)) in
+      let new = over zs (lineSize 1 + lineSize 2 * i) (linkLine l) in
+      let same : length new ≡ length zs = length-over zs (lineSize 1 + lineSize 2 * i) (linkLine l) (omega (arith, length-link l)) in
       step (λ k.
       rewrite tk 0 (λ (m : ℕ). ‵ (OwnText b o κ γ m zs)) (sym en) refl $
       lft-new tk tt (λ α. move tk (1 ∷ 2 ∷ []) $

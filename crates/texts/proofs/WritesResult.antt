@@ -1,22 +1,23 @@
 -- The result writer above checking: the names that it leaves, and the rows that it tried.
 -- Assumes nothing.
-use Prim.Native.Nat.{ℕ, min}
+use Prim.Native.Nat.{ℕ}
 use mathlib.Core.Path.{_≡_, refl, sym, _∙_, ap, subst}
 use mathlib.Core.Bool.{Bool, true}
 use mathlib.Core.List.{List, [], _∷_}
 use native.Mathlib.Omega.{arith}
 use lib.Dec.{ltb}
-use lib.ListN.{length, getD, drop}
+use lib.ListN.{length, getD}
 use Rattle.meaning.specs.declared.Link.{Link}
 use Rattle.meaning.specs.declared.Judged.{Judged}
 use Rattle.meaning.specs.declared.Judged.the-variants.{Accepted, Refused}
 use Rattle.meaning.specs.Judge.{refuse, first}
+use Rattle.meaning.proofs.Room.{settled-new, over-front}
 use Rattle.meaning.specs.Tally.{pairTally}
 use Rattle.links.specs.Links.{tableRows}
 use Rattle.links.proofs.LinksRows.{table-counted, accepted-left, accepted-right}
 use Rattle.links.specs.Records.{firstOf}
 use Rattle.weighing.specs.Side.{heapOf}
-use Rattle.cutting.specs.Names.{settled, written}
+use Rattle.cutting.specs.Names.{names}
 use Rattle.cutting.proofs.Names.{names-at}
 use Rattle.cutting.specs.RecordRows.{recordRows}
 use Rattle.cutting.specs.declared.Answer.{Answer}
@@ -55,7 +56,7 @@ module _ (n k : ℕ) (links : List Link) (bytes labels : List ℕ) (long : lengt
     judged = judged-so (first rows) _ _ r (checked .answer)
 
     pub checked-named : judgedOf r ≡ Accepted → Named n k bytes labels′
-    unfolding checkingRows settled written heapOf
+    unfolding checkingRows heapOf
     checked-named e =
         let accepted = sym judged ∙ e in
         let counted = table-counted n k true links (accepted-left (tableRows n k true links) _ accepted) in
@@ -64,8 +65,8 @@ module _ (n k : ℕ) (links : List Link) (bytes labels : List ℕ) (long : lengt
           bones = counted .few-bones;
           threshold = omega (arith, counted .low-threshold);
           cuts = omega (arith, sound .few, counted .few-bones);
-          names-of = λ b l. ap (λ (x : List ℕ). getD x b 0) (checked .names-left ∙ ap (λ (j : Judged). settled j labels (written n (namesLeft n bytes) labels)) accepted)
-              ∙ names-at (min n (length labels)) (namesLeft n bytes) (drop n labels) b (omega (arith, counted .few-bones, long));
+          names-of = λ b l. ap (λ (x : List ℕ). getD x b 0) (checked .names-left ∙ settled-new labels _ accepted ∙ over-front labels (names n (namesLeft n bytes)))
+              ∙ names-at n (namesLeft n bytes) _ b l;
         }
 
     pub checked-result : (room room′ : List ℕ) (w : Written) → Writes (firstOf (judgedOf r) (refuse (ltb (length room) (length (resultText n k bytes))) 20 0)) (resultText n k bytes) room room′ w

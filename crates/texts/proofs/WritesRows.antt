@@ -15,15 +15,17 @@ use Rattle.meaning.proofs.Tests.{taut, so, _⊃_}
 use Rattle.links.specs.Records.{firstOf}
 use Rattle.cutting.specs.Record.{entrySize}
 use Rattle.cutting.specs.RecordRows.{recordRow}
-use Rattle.frames.specs.Placing.{over, Puts}
-use Rattle.frames.proofs.Writes.{onto, length-over}
+use Rattle.meaning.specs.Room.{over, settled}
+use Rattle.frames.specs.Placing.{Puts}
+use Rattle.meaning.proofs.Room.{onto, length-over}
 use Rattle.frames.proofs.Places.{puts-fit}
+use Rattle.frames.specs.Frame.{lineSize}
 use Rattle.texts.specs.declared.Written.{Written}
-use Rattle.texts.specs.declared.Written.the-variants.{Bytes, Refused as Refused·written}
+use Rattle.texts.specs.declared.Written.the-variants.{Wrote, Refused as Refused·written}
 use Rattle.texts.specs.Kinds.{headLine, cutLines, closeLine}
 use Rattle.texts.specs.Writing.{wrote}
 use Rattle.texts.proofs.WritesLines.{length-head, length-cuts, length-close}
-use Rattle.texts.specs.Steps.{inputSize, laterRows, around, Begun, linksLeft}
+use Rattle.texts.specs.Steps.{inputSize, laterRows, around, Surrounds, linksLeft}
 
 -- the first refusal of two lists of rows
 pub first-both : (js ks : List Judged) → first (js ++ ks) ≡ firstOf (first js) (first ks)
@@ -84,17 +86,17 @@ later-accepted n count bytes room e =
 
 -- what is begun, by whether it was refused
 module _ (n k count : ℕ) (bytes room : List ℕ) where
-  pub begun-refused : (j : Judged) {number place : ℕ} → j ≡ Refused number place → Begun j n k count bytes room room (Refused·written number place)
-  unfolding wrote around
-  begun-refused j e = rw e (record { answer = refl; text-left = refl })
+  pub surrounds-refused : (j : Judged) {number place : ℕ} → j ≡ Refused number place → Surrounds j n k count bytes room room (Refused·written number place)
+  unfolding wrote settled
+  surrounds-refused j e = rw e (record { answer = refl; text-left = refl })
 
-  pub begun-whole : (j : Judged) (room′ : List ℕ) (r : ℕ) → j ≡ Accepted → r ≡ inputSize count (length bytes / entrySize) → room′ ≡ around Accepted n k count bytes room
-      → Begun j n k count bytes room room′ (Bytes r)
-  unfolding wrote
-  begun-whole j room′ r e f g = rw e (record { answer = ap Bytes f; text-left = g })
+  pub surrounds-whole : (j : Judged) (room′ : List ℕ) (r : ℕ) → j ≡ Accepted → r ≡ inputSize count (length bytes / entrySize) → room′ ≡ around n k count bytes room
+      → Surrounds j n k count bytes room room′ (Wrote r)
+  unfolding wrote settled
+  surrounds-whole j room′ r e f g = rw e (record { answer = ap Wrote f; text-left = g })
 
 -- how many links are left to write
-pub left-all : {r : Written} {written : ℕ} (count : ℕ) → r ≡ Bytes written → count ≡ linksLeft r count
+pub left-all : {r : Written} {written : ℕ} (count : ℕ) → r ≡ Wrote written → count ≡ linksLeft r count
 unfolding linksLeft
 left-all count e = rw e
 
@@ -105,28 +107,28 @@ left-none count e = rw e
 -- the frames around the links from their parts
 module _ (n k count : ℕ) (bytes room : List ℕ) (fits : inputSize count (length bytes / entrySize) ≤ length room) where
   -- the head is put at the front, and the cuts behind the room that the links take
-  pub head-put : (r : List ℕ) (o : ℕ) → Puts room 0 (headLine n k) r o → (o ≡ 11) × (r ≡ over room 0 (headLine n k)) × (length r ≡ length room)
+  pub head-put : (r : List ℕ) (o : ℕ) → Puts room 0 (headLine n k) r o → (o ≡ lineSize 1) × (r ≡ over room 0 (headLine n k)) × (length r ≡ length room)
   head-put r o p =
       let long = length-head n k in
       let e = puts-fit room 0 (headLine n k) r o (omega arith) p in
       (omega (arith, e .0), e .1, ap length (e .1) ∙ length-over room 0 (headLine n k) (omega arith))
 
-  cuts-put : (r s : List ℕ) (o p : ℕ) → o ≡ 11 → length r ≡ length room → Puts r (o + 13 * count) (cutLines (length bytes / entrySize) bytes) s p
-      → (p ≡ o + 13 * count + 47 * (length bytes / entrySize))
-      × (s ≡ over r (o + 13 * count) (cutLines (length bytes / entrySize) bytes))
+  cuts-put : (r s : List ℕ) (o p : ℕ) → o ≡ lineSize 1 → length r ≡ length room → Puts r (o + lineSize 2 * count) (cutLines (length bytes / entrySize) bytes) s p
+      → (p ≡ o + lineSize 2 * count + lineSize 3 * (length bytes / entrySize))
+      × (s ≡ over r (o + lineSize 2 * count) (cutLines (length bytes / entrySize) bytes))
       × (length s ≡ length room)
   cuts-put r s o p o-is same q =
       let cuts = cutLines (length bytes / entrySize) bytes in
       let long = length-cuts (length bytes / entrySize) bytes (omega arith) in
-      let e = puts-fit r (o + 13 * count) cuts s p (omega arith) q in
-      (omega (arith, e .0), e .1, ap length (e .1) ∙ length-over r (o + 13 * count) cuts (omega arith) ∙ same)
+      let e = puts-fit r (o + lineSize 2 * count) cuts s p (omega arith) q in
+      (omega (arith, e .0), e .1, ap length (e .1) ∙ length-over r (o + lineSize 2 * count) cuts (omega arith) ∙ same)
 
   pub around-made : (r s u : List ℕ) (o p q f : ℕ)
       → Puts room 0 (headLine n k) r o
-      → Puts r (o + 13 * count) (cutLines (length bytes / entrySize) bytes) s p
+      → Puts r (o + lineSize 2 * count) (cutLines (length bytes / entrySize) bytes) s p
       → f ≡ 1 + count + length bytes / entrySize
       → Puts s p (closeLine f) u q
-      → u ≡ around Accepted n k count bytes room
+      → u ≡ around n k count bytes room
   unfolding around
   around-made r s u o p q f e₁ e₂ f-is e₃ =
       let m = length bytes / entrySize in
@@ -136,11 +138,11 @@ module _ (n k count : ℕ) (bytes room : List ℕ) (fits : inputSize count (leng
       let l₃ = length-close f in
       puts-fit s p (closeLine f) u q (omega (arith, head .0, cuts .0, cuts .2)) e₃ .1
       ∙ ap (λ (x : ℕ). over s p (closeLine x)) f-is
-      ∙ onto r (o + 13 * count) (cutLines m bytes) (closeLine (1 + count + m)) s p (cuts .1) (omega (arith, cuts .0)) (omega (arith, head .0, head .2))
-      ∙ ap₂ (λ (a : List ℕ) (b : ℕ). over a (b + 13 * count) (cutLines m bytes ++ closeLine (1 + count + m))) (head .1) (head .0)
+      ∙ onto r (o + lineSize 2 * count) (cutLines m bytes) (closeLine (1 + count + m)) s p (cuts .1) (omega (arith, cuts .0)) (omega (arith, head .0, head .2))
+      ∙ ap₂ (λ (a : List ℕ) (b : ℕ). over a (b + lineSize 2 * count) (cutLines m bytes ++ closeLine (1 + count + m))) (head .1) (head .0)
 
 -- what was begun after rows 1 to 6 passed
-pub begun-after : (i j : Judged) (n k count : ℕ) (bytes room room′ : List ℕ) (r : Written) → i ≡ Accepted → Begun j n k count bytes room room′ r
-    → Begun (firstOf i j) n k count bytes room room′ r
+pub surrounds-after : (i j : Judged) (n k count : ℕ) (bytes room room′ : List ℕ) (r : Written) → i ≡ Accepted → Surrounds j n k count bytes room room′ r
+    → Surrounds (firstOf i j) n k count bytes room room′ r
 unfolding firstOf
-begun-after i j n k count bytes room room′ r e b = rw e b
+surrounds-after i j n k count bytes room room′ r e b = rw e b

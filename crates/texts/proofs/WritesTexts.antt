@@ -8,15 +8,17 @@ use lib.ListN.{length, length-append}
 use Rattle.meaning.specs.Heap.{start, left}
 use Rattle.weighing.specs.Side.{heapOf}
 use Rattle.cutting.specs.Record.{entrySize, cutsOf}
-use Rattle.frames.specs.Placing.{over, Puts}
-use Rattle.frames.proofs.Writes.{onto, length-over}
+use Rattle.meaning.specs.Room.{over}
+use Rattle.frames.specs.Placing.{Puts}
+use Rattle.meaning.proofs.Room.{onto, length-over}
 use Rattle.frames.proofs.Places.{puts-fit}
 use Rattle.texts.specs.Kinds.{headLine, cutLines, labelLines, closeLine}
 use Rattle.texts.proofs.WritesLines.{labels-same, length-head, length-cuts, length-labels, length-close}
 use Rattle.texts.specs.Writers.{resultText}
 use Rattle.texts.specs.ResultSteps.{Named}
+use Rattle.texts.specs.Steps.{resultSize}
 
-pub length-result : (n k : ℕ) (bytes : List ℕ) → length (resultText n k bytes) ≡ 20 + 47 * (length bytes / entrySize) + 9 * n
+pub length-result : (n k : ℕ) (bytes : List ℕ) → length (resultText n k bytes) ≡ resultSize (length bytes / entrySize) n
 unfolding resultText
 length-result n k bytes =
     simp length-append

@@ -2,15 +2,16 @@
 use Prim.Native.Nat.{ℕ, _+_, _/_}
 use mathlib.Core.Bool.{true}
 use mathlib.Core.List.{List, [], _∷_, _++_}
-use lib.Dec.{ltb}
 use lib.ListN.{length}
 use Rattle.meaning.specs.declared.Link.{Link}
 use Rattle.meaning.specs.declared.Judged.{Judged}
-use Rattle.meaning.specs.Judge.{refuse}
+use Rattle.meaning.specs.Judge.{first}
 use Rattle.links.specs.Links.{tableRows}
 use Rattle.cutting.specs.Record.{entrySize}
 use Rattle.cutting.specs.RecordRows.{recordRow}
+use Rattle.texts.specs.declared.Written.{Written}
 use Rattle.texts.specs.Kinds.{headLine, linkLines, cutLines, closeLine}
+use Rattle.texts.specs.Writing.{textRow, Writes}
 
 -- an input text: head, links, cuts, close
 unfoldable pub inputText : ℕ → ℕ → List Link → List ℕ → List ℕ
@@ -20,4 +21,8 @@ inputText n k links bytes =
 -- what the writer tries: 1 to 6, 9, 20
 unfoldable pub inputRows : ℕ → ℕ → List Link → List ℕ → ℕ → List Judged
 inputRows n k links bytes room =
-    tableRows n k true links ++ recordRow n (length bytes) ∷ refuse (ltb room (length (inputText n k links bytes))) 20 0 ∷ []
+    tableRows n k true links ++ recordRow n (length bytes) ∷ textRow (inputText n k links bytes) room ∷ []
+
+-- what the writer promises
+abbrev pub WritingInput : ℕ → ℕ → List Link → List ℕ → List ℕ → List ℕ → Written → Type 0
+WritingInput n k links bytes room room′ r = Writes (first (inputRows n k links bytes (length room))) (inputText n k links bytes) room room′ r

@@ -40,18 +40,18 @@ headFrom Linking coming had = had
 headFrom Cutting coming had = had
 headFrom Closed coming had = had
 
-unfoldable pub answer : Judged → ℕ → ℕ → ℕ → ℕ → Reading
-answer Accepted n k links cuts = Got n k links cuts
-answer (Refused number place) n k links cuts = Refused·reading number place
+unfoldable pub readingOf : Judged → ℕ → ℕ → ℕ → ℕ → Reading
+readingOf Accepted n k links cuts = Got n k links cuts
+readingOf (Refused number place) n k links cuts = Refused·reading number place
 
 -- what is read in all, where so much was read before these lines
 unfoldable pub readFrom : Progress → List Line → Reading
 readFrom s ls =
-    answer (first (lineRows (s .stage) (s .line) ls)) (headFrom (s .stage) (bonesIn ls) (s .n)) (headFrom (s .stage) (thresholdIn ls) (s .k))
+    readingOf (first (lineRows (s .stage) (s .line) ls)) (headFrom (s .stage) (bonesIn ls) (s .n)) (headFrom (s .stage) (thresholdIn ls) (s .k))
     (s .links + length (linksIn ls)) (s .cuts + length (entriesIn ls) / entrySize)
 
 -- so far at most as many links and cuts as lines, and at most as many lines as characters
-pub record Small (text : List ℕ) (s : Progress) : Type 0 where
+pub record Bounded (text : List ℕ) (s : Progress) : Type 0 where
   pub text-small : length text ≤ 65536
   pub place : s .at ≤ length text
   pub lines : s .line ≤ s .at
@@ -59,13 +59,13 @@ pub record Small (text : List ℕ) (s : Progress) : Type 0 where
   pub cuts : s .cuts ≤ s .line
 
 pub record Ready (text : List ℕ) (s : Progress) (f : Frame) : Type 0 where
-  pub small : Small text s
+  pub small : Bounded text s
   pub some : 0 < f .size
   pub found : Found (drop (s .at) text) f
   pub passes : Passes (drop (s .at) text) (s .stage) (s .line)
 
 pub record Advanced (text : List ℕ) (s s′ : Progress) : Type 0 where
-  pub small : Small text s′
+  pub small : Bounded text s′
   pub further : s .at < s′ .at
   pub same : readFrom s (linesOf (drop (s .at) text)) ≡ readFrom s′ (linesOf (drop (s′ .at) text))
 

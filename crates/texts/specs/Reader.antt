@@ -1,5 +1,5 @@
 -- What the reader gives: the head's numbers, the links and the cuts of a text.
-use Prim.Native.Nat.{ℕ, _+_, _*_, _/_}
+use Prim.Native.Nat.{ℕ, _*_, _/_}
 use mathlib.Core.Path.{_≡_}
 use mathlib.Core.Bool.{cond}
 use mathlib.Core.List.{List, [], _∷_, _++_}
@@ -9,6 +9,7 @@ use Rattle.meaning.specs.declared.Link.{Link}
 use Rattle.meaning.specs.declared.Judged.{Judged}
 use Rattle.meaning.specs.declared.Judged.the-variants.{Accepted, Refused}
 use Rattle.meaning.specs.Judge.{refuse, first}
+use Rattle.meaning.specs.Room.{over, settled}
 use Rattle.cutting.specs.Record.{entrySize}
 use Rattle.texts.specs.declared.Reading.{Reading}
 use Rattle.texts.specs.declared.Reading.the-variants.{Got, Refused as Refused·reading}
@@ -55,12 +56,7 @@ unfoldable pub read : Judged → List Line → Reading
 read Accepted ls = Got (bonesIn ls) (thresholdIn ls) (length (linksIn ls)) (length (entriesIn ls) / entrySize)
 read (Refused number place) ls = Refused·reading number place
 
--- lent room after a call: as it was where refused; else what was given at the front, the rest as it was
-unfoldable pub put {ℓ} : {A : Type ℓ} → Judged → List A → List A → List A
-put Accepted given room = given ++ drop (length given) room
-put (Refused number place) given room = room
-
 pub record Reads (text : List ℕ) (links links′ : List Link) (space space′ : List ℕ) (r : Reading) : Type 0 where
   pub answer : r ≡ read (first (readerRows text (length links) (length space))) (linesOf text)
-  pub links-left : links′ ≡ put (first (readerRows text (length links) (length space))) (linksIn (linesOf text)) links
-  pub record-left : space′ ≡ put (first (readerRows text (length links) (length space))) (entriesIn (linesOf text)) space
+  pub links-left : links′ ≡ settled (first (readerRows text (length links) (length space))) links (over links 0 (linksIn (linesOf text)))
+  pub record-left : space′ ≡ settled (first (readerRows text (length links) (length space))) space (over space 0 (entriesIn (linesOf text)))

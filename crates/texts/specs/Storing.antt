@@ -29,8 +29,8 @@ unfoldable pub payloadAt : List ℕ → ℕ → List ℕ
 payloadAt cs zero = []
 payloadAt cs (suc i) = payloadAt cs i ++ byteAt cs (suc i) ∷ []
 
-unfoldable pub linkAt : List ℕ → Link
-linkAt cs = record { a = byteAt cs 1; b = byteAt cs 2; tally = byteAt cs 3 * 256 + byteAt cs 4 }
+unfoldable pub linkHere : List ℕ → Link
+linkHere cs = record { a = byteAt cs 1; b = byteAt cs 2; tally = byteAt cs 3 * 256 + byteAt cs 4 }
 
 -- there is a link from a place on
 pub record LinkAhead (text : List ℕ) (at : ℕ) : Type 0 where
@@ -45,13 +45,13 @@ pub record LinkPast (text : List ℕ) (at r : ℕ) : Type 0 where
   pub links : linksIn (linesOf (drop r text)) ≡ drop 1 (linksIn (linesOf (drop at text)))
 
 -- how many links and cuts are to be stored: those read, or none where the text is refused
-unfoldable pub linksOf : Reading → ℕ
-linksOf (Got n k links cuts) = links
-linksOf (Refused number place) = 0
+unfoldable pub linksRead : Reading → ℕ
+linksRead (Got n k links cuts) = links
+linksRead (Refused number place) = 0
 
-unfoldable pub cutsHeld : Reading → ℕ
-cutsHeld (Got n k links cuts) = cuts
-cutsHeld (Refused number place) = 0
+unfoldable pub cutsRead : Reading → ℕ
+cutsRead (Got n k links cuts) = cuts
+cutsRead (Refused number place) = 0
 
 -- so many items of a text can be stored in that room: none, or all that a text of well formed lines holds
 pub record Storable (text : List ℕ) (count held room : ℕ) : Type 0 where

@@ -4,10 +4,10 @@ ghost use Prim.Native.Nat.{_+_, _*_, _≤_, _<_};
 ghost use lib.Dec.{T};
 ghost use lib.ListN.{length, drop};
 ghost use Rattle.texts.specs.Walk.{byteAt, digitsAt, Well, Found, SizeFound, Summed};
+use frames::digits::as_number;
 use frames::digits::kind_of;
 use frames::digits::pair;
 use frames::digits::value;
-use frames::digits::wide;
 use frames::frame::add_byte;
 use frames::frame::feed_at;
 use frames::frame::payload;
@@ -59,7 +59,7 @@ fn add_bytes(text: &[u8], at: usize, size: usize) -> usize
         sum = add_byte(sum, (byte % 256) as u8);
         i += 1;
     }
-    if bad == 0 { wide(sum) } else { 256 }
+    if bad == 0 { as_number(sum) } else { 256 }
 }
 
 // The same. Most frames are links, and a loop over so many bytes as are known beforehand is quicker.

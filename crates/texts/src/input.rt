@@ -19,19 +19,17 @@ ghost use Prim.Native.Nat.{_+_, _*_, _≤_, _<_};
 ghost use lib.ListN.{length, take};
 ghost use Rattle.meaning.specs.Judge.{first};
 ghost use Rattle.meaning.specs.declared.Judged.the-variants.{Accepted};
-ghost use Rattle.links.specs.Records.{firstOf};
+ghost use Rattle.meaning.specs.Room.{over};
 ghost use Rattle.frames.specs.Frame.{lineSize};
-ghost use Rattle.frames.specs.Placing.{over};
 ghost use Rattle.texts.specs.Kinds.{linkLine, linkLines};
-ghost use Rattle.texts.specs.Writing.{Writes};
-ghost use Rattle.texts.specs.Inputs.{inputText, inputRows};
-ghost use Rattle.texts.specs.Steps.{Counts, inputSize, laterRows, around, Begun, linksLeft};
+ghost use Rattle.texts.specs.Inputs.{WritingInput};
+ghost use Rattle.texts.specs.Steps.{Counts, inputSize, laterRows, around, Surrounds, SurroundsAfter, linksLeft};
 
 // The lines around links and cuts: head and close.
 const AROUND: usize = HEAD_LINE + CLOSE_LINE;
 
 // The length of an input text.
-fn size_of(count: usize, cuts: usize) -> usize
+fn input_size(count: usize, cuts: usize) -> usize
     requires { ⌜ (count ≤ 4096) × (cuts ≤ 127) ⌝ }
     ensures { λ r. ⌜ r ≡ inputSize count cuts ⌝ }
 {
@@ -56,7 +54,7 @@ fn judge_later(n: u64, count: usize, bytes: &[u8], room: usize) -> Judged
             place: 0,
         };
     }
-    if room < size_of(count, cuts) {
+    if room < input_size(count, cuts) {
         return Judged::Refused {
             number: 20,
             place: 0,
@@ -69,7 +67,7 @@ fn judge_later(n: u64, count: usize, bytes: &[u8], room: usize) -> Judged
 fn put_around(text: &mut [u8], n: u64, k: u64, count: usize, bytes: &[u8])
     requires { ⌜ Counts n k count ⌝ }
     requires { ⌜ first (laterRows n count (now bytes) (length (now text))) ≡ Accepted ⌝ }
-    ensures { λ _. ⌜ now (text .exit) ≡ around Accepted n k count (now (bytes .entry)) (now (text .entry)) ⌝ }
+    ensures { λ _. ⌜ now (text .exit) ≡ around n k count (now (bytes .entry)) (now (text .entry)) ⌝ }
 {
     let links = put_head(text, 0, n as u8, k as u16);
     let close = put_cuts(text, links + LINK_LINE * count, bytes);
@@ -80,15 +78,15 @@ fn put_around(text: &mut [u8], n: u64, k: u64, count: usize, bytes: &[u8])
 // Rows 9 and 20; where neither refuses, the frames around the links.
 fn begin_judged(n: u64, k: u64, count: usize, bytes: &[u8], text: &mut [u8]) -> Written
     requires { ⌜ Counts n k count ⌝ }
-    ensures { λ r. ⌜ Begun (first (laterRows n count (now (bytes .entry)) (length (now (text .entry))))) n k count (now (bytes .entry)) (now (text .entry)) (now (text .exit)) r ⌝ }
+    ensures { λ r. ⌜ Surrounds (first (laterRows n count (now (bytes .entry)) (length (now (text .entry))))) n k count (now (bytes .entry)) (now (text .entry)) (now (text .exit)) r ⌝ }
 {
     let later = judge_later(n, count, bytes, text.len());
     match later {
         Judged::Refused { number, place } => Written::Refused { number, place },
         Judged::Accepted => {
             put_around(text, n, k, count, bytes);
-            Written::Bytes {
-                count: size_of(count, bytes.len() / Record::ENTRY) as u32,
+            Written::Wrote {
+                count: input_size(count, bytes.len() / Record::ENTRY) as u32,
             }
         },
     }
@@ -97,7 +95,7 @@ fn begin_judged(n: u64, k: u64, count: usize, bytes: &[u8], text: &mut [u8]) -> 
 // The same after rows 1 to 6.
 fn begin(judged: Judged, n: u64, k: u64, count: usize, bytes: &[u8], text: &mut [u8]) -> Written
     requires { ⌜ (judged ≡ Accepted → Counts n k count) ⌝ }
-    ensures { λ r. ⌜ Begun (firstOf judged (first (laterRows n count (now (bytes .entry)) (length (now (text .entry)))))) n k count (now (bytes .entry)) (now (text .entry)) (now (text .exit)) r ⌝ }
+    ensures { λ r. ⌜ SurroundsAfter judged n k count (now (bytes .entry)) (now (text .entry)) (now (text .exit)) r ⌝ }
 {
     match judged {
         Judged::Refused { number, place } => Written::Refused { number, place },
@@ -110,7 +108,7 @@ fn links_left(written: Written, count: usize) -> usize
     ensures { λ r. ⌜ r ≡ linksLeft written count ⌝ }
 {
     match written {
-        Written::Bytes { count: _ } => count,
+        Written::Wrote { count: _ } => count,
         Written::Refused {
             number: _,
             place: _,
@@ -140,7 +138,7 @@ fn put_links(links: &[Link], count: usize, text: &mut [u8])
 
 // Writes an input text of links lent as records: rows 1 to 6, 9 and 20, then the text.
 pub fn write_input(n: u64, k: u64, links: &[Link], bytes: &[u8], text: &mut [u8]) -> Written
-    ensures { λ r. ⌜ Writes (first (inputRows n k (now (links .entry)) (now (bytes .entry)) (length (now (text .entry))))) (inputText n k (now (links .entry)) (now (bytes .entry))) (now (text .entry)) (now (text .exit)) r ⌝ }
+    ensures { λ r. ⌜ WritingInput n k (now (links .entry)) (now (bytes .entry)) (now (text .entry)) (now (text .exit)) r ⌝ }
 {
     let judged = judge_records(n, k, links);
     let written = begin(judged, n, k, links.len(), bytes, text);

@@ -7,11 +7,12 @@ use frames::write::put_line;
 ghost use mathlib.Core.Path.{_≡_};
 ghost use Prim.Native.Nat.{_+_, _*_, _/_, _%_, _≤_, _<_, min};
 ghost use lib.ListN.{length};
+ghost use Rattle.meaning.specs.Room.{over};
 ghost use Rattle.frames.specs.Frame.{lineSize};
 ghost use Rattle.weighing.specs.Side.{heapOf};
 ghost use Rattle.cutting.specs.Record.{entrySize};
 ghost use Rattle.texts.specs.Kinds.{headLine, linkLine, cutLines, labelLine, labelLines, closeLine, refusalLine};
-ghost use Rattle.frames.specs.Placing.{over, Puts};
+ghost use Rattle.frames.specs.Placing.{Puts};
 
 // The two bytes of a number.
 fn high(m: u16) -> u8
@@ -45,7 +46,8 @@ pub fn put_link(room: &mut [u8], at: usize, a: u8, b: u8, tally: u16) -> usize
 // Frames 03 of the whole entries of a record, in room that they fit in.
 fn each_cut(room: &mut [u8], at: usize, bytes: &[u8]) -> usize
     requires { ⌜ at + lineSize 3 * (length (now bytes) / entrySize) ≤ length (now room) ⌝ }
-    ensures { λ r. ⌜ (r ≡ at + lineSize 3 * (length (now (bytes .entry)) / entrySize)) × (now (room .exit) ≡ over (now (room .entry)) at (cutLines (length (now (bytes .entry)) / entrySize) (now (bytes .entry)))) ⌝ }
+    ensures { λ r. ⌜ r ≡ at + lineSize 3 * (length (now (bytes .entry)) / entrySize) ⌝ }
+    ensures { λ _. ⌜ now (room .exit) ≡ over (now (room .entry)) at (cutLines (length (now (bytes .entry)) / entrySize) (now (bytes .entry))) ⌝ }
 {
     let cuts = bytes.len() / Record::ENTRY;
     let mut next = at;

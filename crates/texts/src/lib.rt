@@ -30,7 +30,7 @@ pub enum Reading {
 // What a writer answers: a refusal of the table with its place, or the number of bytes written.
 pub enum Written {
     Refused { number: u32, place: u32 },
-    Bytes { count: u32 },
+    Wrote { count: u32 },
 }
 
 // The longest text that is printed: head, 127 cuts, 128 labels, close.

@@ -1,7 +1,7 @@
 // The reader: a text is judged whole, and only then are its links and cuts stored.
 ghost use mathlib.Core.Path.{_≡_};
-ghost use mathlib.Core.List.{_++_};
-ghost use lib.ListN.{length, take, drop};
+ghost use lib.ListN.{length, take};
+ghost use Rattle.meaning.specs.Room.{over};
 ghost use Rattle.texts.specs.Lines.{linesOf};
 ghost use Rattle.texts.specs.Reader.{linksIn, Reads};
 ghost use Rattle.texts.specs.Storing.{Storable};
@@ -18,7 +18,7 @@ use meaning::Link;
 // So many links of a text that was judged, put at the front of the link space; the rest of it stays.
 fn store_links(text: &[u8], links: &mut [Link], count: usize)
     requires { ⌜ Storable (now text) count (length (linksIn (linesOf (now text)))) (length (now links)) ⌝ }
-    ensures { λ _. ⌜ now (links .exit) ≡ take count (linksIn (linesOf (now (text .entry)))) ++ drop count (now (links .entry)) ⌝ }
+    ensures { λ _. ⌜ now (links .exit) ≡ over (now (links .entry)) 0 (take count (linksIn (linesOf (now (text .entry))))) ⌝ }
 {
     let mut at = 0;
     let mut i = 0;

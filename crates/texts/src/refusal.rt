@@ -18,5 +18,5 @@ pub fn write_refusal(number: u8, place: u16, text: &mut [u8]) -> Written
         };
     }
     put_refusal(text, 0, number, place);
-    Written::Bytes { count: LENGTH }
+    Written::Wrote { count: LENGTH }
 }

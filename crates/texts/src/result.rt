@@ -14,17 +14,14 @@ use frames::frame::HEAD_LINE;
 use frames::frame::LABEL_LINE;
 use meaning::Link;
 ghost use mathlib.Core.Path.{_≡_};
-ghost use Prim.Native.Nat.{_+_, _*_, _≤_, _<_};
-ghost use lib.Dec.{ltb};
+ghost use Prim.Native.Nat.{_≤_, _<_};
 ghost use lib.ListN.{length};
-ghost use Rattle.frames.specs.Frame.{lineSize};
-ghost use Rattle.meaning.specs.Judge.{refuse, first};
 ghost use Rattle.meaning.specs.declared.Judged.the-variants.{Accepted};
-ghost use Rattle.links.specs.Records.{firstOf};
-ghost use Rattle.texts.specs.Writing.{Writes};
-ghost use Rattle.texts.specs.Writers.{resultText, resultRows};
-ghost use Rattle.frames.specs.Placing.{over};
-ghost use Rattle.texts.specs.ResultSteps.{Named, judgedOf};
+ghost use Rattle.meaning.specs.Room.{over};
+ghost use Rattle.texts.specs.Writing.{WritesWhole};
+ghost use Rattle.texts.specs.Writers.{resultText, WritingResult};
+ghost use Rattle.texts.specs.ResultSteps.{Named, judgedOf, WritesChecked};
+ghost use Rattle.texts.specs.Steps.{resultSize};
 
 // The lines around cuts and labels: head and close.
 const AROUND: usize = HEAD_LINE + CLOSE_LINE;
@@ -32,7 +29,7 @@ const AROUND: usize = HEAD_LINE + CLOSE_LINE;
 // The length of a result text.
 fn length_of(n: u64, cuts: usize) -> usize
     requires { ⌜ (n ≤ 128) × (cuts ≤ 127) ⌝ }
-    ensures { λ r. ⌜ r ≡ lineSize 1 + lineSize 6 + lineSize 3 * cuts + lineSize 4 * n ⌝ }
+    ensures { λ r. ⌜ r ≡ resultSize cuts n ⌝ }
 {
     AROUND + CUT_LINE * cuts + LABEL_LINE * (n as usize)
 }
@@ -59,7 +56,7 @@ pub(crate) fn result_from(
     names: &[u8; 128],
 ) -> Written
     requires { ⌜ Named n k (now bytes) (now names) ⌝ }
-    ensures { λ r. ⌜ Writes (refuse (ltb (length (now (room .entry))) (length (resultText n k (now (bytes .entry))))) 20 0) (resultText n k (now (bytes .entry))) (now (room .entry)) (now (room .exit)) r ⌝ }
+    ensures { λ r. ⌜ WritesWhole (resultText n k (now (bytes .entry))) (now (room .entry)) (now (room .exit)) r ⌝ }
 {
     let length = length_of(n, bytes.len() / Record::ENTRY);
     if room.len() < length {
@@ -69,7 +66,7 @@ pub(crate) fn result_from(
         };
     }
     put_result(room, n, k, bytes, names);
-    Written::Bytes {
+    Written::Wrote {
         count: length as u32,
     }
 }
@@ -84,7 +81,7 @@ pub(crate) fn result_after(
     room: &mut [u8],
 ) -> Written
     requires { ⌜ (judgedOf checked ≡ Accepted → Named n k (now bytes) (now names)) ⌝ }
-    ensures { λ r. ⌜ Writes (firstOf (judgedOf checked) (refuse (ltb (length (now (room .entry))) (length (resultText n k (now (bytes .entry))))) 20 0)) (resultText n k (now (bytes .entry))) (now (room .entry)) (now (room .exit)) r ⌝ }
+    ensures { λ r. ⌜ WritesChecked checked (resultText n k (now (bytes .entry))) (now (room .entry)) (now (room .exit)) r ⌝ }
 {
     match checked {
         Answer::Refused { number, place } => Written::Refused { number, place },
@@ -98,7 +95,7 @@ pub(crate) fn result_after(
 // Writes a result text of links lent as records: rows 1 to 6 and 9 to 13, which checking tries, and 20; then the text. The names in it are those that
 // checking gives.
 pub fn write_result(n: u64, k: u64, links: &[Link], bytes: &[u8], text: &mut [u8]) -> Written
-    ensures { λ r. ⌜ Writes (first (resultRows n k (now (links .entry)) (now (bytes .entry)) (length (now (text .entry))))) (resultText n k (now (bytes .entry))) (now (text .entry)) (now (text .exit)) r ⌝ }
+    ensures { λ r. ⌜ WritingResult n k (now (links .entry)) (now (bytes .entry)) (now (text .entry)) (now (text .exit)) r ⌝ }
 {
     let mut names = [0u8; 128];
     let checked = checking_records(n, k, links, bytes, &mut names);

@@ -1,16 +1,16 @@
 // The storing pass over a text that was judged: its frames found again, and what links and cuts hold.
 ghost use mathlib.Core.Path.{_≡_};
-ghost use mathlib.Core.List.{_++_};
 ghost use Prim.Native.Nat.{_+_, _*_, _<_, _≤_};
 ghost use lib.Dec.{T};
 ghost use lib.ListN.{length, getD, take, drop};
+ghost use Rattle.meaning.specs.Room.{over};
 ghost use Rattle.links.specs.Records.{noLink};
 ghost use Rattle.cutting.specs.Record.{entrySize};
 ghost use Rattle.texts.specs.Lines.{linesOf};
 ghost use Rattle.texts.specs.Reader.{linksIn, entriesIn};
 ghost use Rattle.texts.specs.Walk.{byteAt, sizeAt, Well};
 ghost use Rattle.texts.specs.Judging.{allWell};
-ghost use Rattle.texts.specs.Storing.{Skipped, payloadAt, linkAt, LinkAhead, LinkPast, linksOf, cutsHeld, Storable};
+ghost use Rattle.texts.specs.Storing.{Skipped, payloadAt, linkHere, LinkAhead, LinkPast, linksRead, cutsRead, Storable};
 use crate::Reading;
 use crate::frame::byte_at;
 use crate::frame::kind_at;
@@ -45,7 +45,7 @@ fn find_kind(text: &[u8], from: usize, kind: usize) -> usize
 // The link of the frame at a place.
 fn link_here(text: &[u8], at: usize) -> Link
     requires { ⌜ Well (drop at (now text)) × (byteAt (drop at (now text)) 0 ≡ 2) ⌝ }
-    ensures { λ r. ⌜ r ≡ linkAt (drop at (now (text .entry))) ⌝ }
+    ensures { λ r. ⌜ r ≡ linkHere (drop at (now (text .entry))) ⌝ }
 {
     Link {
         a: byte_at(text, at, 1),
@@ -73,7 +73,7 @@ pub(crate) fn link_past(text: &[u8], at: usize) -> usize
 // The entry of the frame at a place, put into the record space.
 fn store_entry(text: &[u8], at: usize, space: &mut [u8], to: usize)
     requires { ⌜ Well (drop at (now text)) × (byteAt (drop at (now text)) 0 ≡ 3) × (to + entrySize ≤ length (now space)) ⌝ }
-    ensures { λ _. ⌜ now (space .exit) ≡ take to (now (space .entry)) ++ payloadAt (drop at (now (text .entry))) entrySize ++ drop (to + entrySize) (now (space .entry)) ⌝ }
+    ensures { λ _. ⌜ now (space .exit) ≡ over (now (space .entry)) to (payloadAt (drop at (now (text .entry))) entrySize) ⌝ }
 {
     let mut i = 0;
     while i < Record::ENTRY {
@@ -85,7 +85,7 @@ fn store_entry(text: &[u8], at: usize, space: &mut [u8], to: usize)
 // So many entries of a text that was judged, put at the front of the record space; the rest of it stays.
 pub(crate) fn store_entries(text: &[u8], space: &mut [u8], cuts: usize)
     requires { ⌜ Storable (now text) (cuts * entrySize) (length (entriesIn (linesOf (now text)))) (length (now space)) ⌝ }
-    ensures { λ _. ⌜ now (space .exit) ≡ take (cuts * entrySize) (entriesIn (linesOf (now (text .entry)))) ++ drop (cuts * entrySize) (now (space .entry)) ⌝ }
+    ensures { λ _. ⌜ now (space .exit) ≡ over (now (space .entry)) 0 (take (cuts * entrySize) (entriesIn (linesOf (now (text .entry))))) ⌝ }
 {
     let mut at = 0;
     let mut i = 0;
@@ -99,7 +99,7 @@ pub(crate) fn store_entries(text: &[u8], space: &mut [u8], cuts: usize)
 
 // How many links of a reading are to be stored.
 pub(crate) fn links_of(found: Reading) -> usize
-    ensures { λ r. ⌜ r ≡ linksOf found ⌝ }
+    ensures { λ r. ⌜ r ≡ linksRead found ⌝ }
 {
     match found {
         Reading::Got {
@@ -117,7 +117,7 @@ pub(crate) fn links_of(found: Reading) -> usize
 
 // How many cuts of a reading are to be stored.
 pub(crate) fn cuts_of(found: Reading) -> usize
-    ensures { λ r. ⌜ r ≡ cutsHeld found ⌝ }
+    ensures { λ r. ⌜ r ≡ cutsRead found ⌝ }
 {
     match found {
         Reading::Got {

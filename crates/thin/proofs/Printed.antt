@@ -7,12 +7,13 @@ use Rattle.meaning.specs.Judge.{first}
 use Rattle.texts.specs.Lines.{linesOf}
 use Rattle.texts.specs.Reader.{linksIn, bonesIn, thresholdIn}
 use Rattle.texts.specs.declared.Written.{Written}
+use Rattle.texts.specs.Steps.{inputSize}
 use Rattle.shell.specs.Shown.{shown}
 use Rattle.shell.proofs.Printing.{shown-all}
-use Rattle.answering.specs.Thins.{thinRows, thinPrinted, ThinsText}
+use Rattle.answering.specs.ThinPrints.{thinRows, thinPrinted, ThinsText}
 use Rattle.answering.proofs.ThinTheorems.{thin-room, thin-count-fits}
 
-pub all-printed : (input out out′ : List ℕ) (r : Written) → ThinsText input out out′ r → 53268 ≤ length out
+pub all-printed : (input out out′ : List ℕ) (r : Written) → ThinsText input out out′ r → inputSize 4096 0 ≤ length out
     → shown r (length out) ≡ length (thinPrinted (first (thinRows input)) (bonesIn (linesOf input)) (thresholdIn (linesOf input)) (linksIn (linesOf input)))
 all-printed input out out′ r a wide =
     let answered = thin-room input out out′ r a wide in

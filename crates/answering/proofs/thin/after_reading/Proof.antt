@@ -17,12 +17,11 @@ use prog.Routine.{Routine}
 use prog.Wp.{Heap, WpFn, Tables}
 use ghost.Atoms.{Atoms}
 use contract.Monad.{Fun}
-use contract.Running.{givenOf, tables, tablesOf}
 use types.Kit.{Given, ‵, raw, _⊛_, ⋆, some, later, _$_, _∵_, !, qed, by, move, drop, group, use1, use2, split, join, rewrite, fsplit, fjoin, feqL, suffices, frame, pick, await, done}
 use types.Match.{vrt, look-tag, in-variant}
 use types.Part.{whole, sub, look-in, agg}
 use types.Run.{look, init, forget, stop, hop, fld, from, load, addr, and-then, no-more, of-opd, un, assigns, returns, enter, alloc1, alloc0, params1, pass1, pass0, free1, free0}
-use sound.WpLaws.{fmOf, WpFn-mono}
+use sound.WpLaws.{fmOf}
 use denote.RattleType.{owns}
 use denote.Laws.{Is, shows}
 use denote.Plain.{uint-makes}
@@ -34,23 +33,21 @@ use denote.Steps.{owned, nothing, peeks}
 use denote.Triple.Entry.{Vals, onEntry}
 use denote.Triple.Statement.{Contract, Triple}
 use denote.Triple.Spec.{tripleOf}
-use denote.Triple.Table.{entered, cited}
-use denote.Triple.Walked.{says, needs, Stays, stay-none-slice, stay-none, gave-slice, walkOf, ends-at, walked, goes-none-slice, goes-none, goes-gave-slice, walk-meets}
+use denote.Triple.Walked.{says, needs, Stays, stay-none-slice, stay-none, gave-slice, walkOf, ends-at, goes-none-slice, goes-none, goes-gave-slice}
 use denote.Exit.{yes}
 use Rattle.meaning.specs.declared.Link.{Link}
 use Rattle.meaning.specs.Judge.{first as first-of}
+use Rattle.links.proofs.Meets.{meets}
 use Rattle.links.proofs.RecordsLink.{R, vals, tells, copied}
 use Rattle.links.proofs.RecordsRead.{Own}
 use Rattle.links.proofs.Locals.{part-of, lends-front}
 use Rattle.texts.specs.declared.Reading.{Reading}
 use Rattle.texts.specs.declared.Reading.the-variants.{Got, Refused}
-use Rattle.texts.proofs.ReadsRow.{D, told, told-so, made-reading}
+use Rattle.texts.proofs.AnswerRows.{D, Wn, reading, reading-row, written-row, reading-refused, reading-got}
 use Rattle.texts.specs.declared.Written.{Written}
-use Rattle.texts.proofs.WritesAnswer.{Wn, typed-held}
-use Rattle.answering.specs.Thins.{thinnedRows, ThinAnswers}
-use Rattle.answering.specs.ThinSteps.{LinksHeld, AfterReading}
+use Rattle.answering.specs.ThinPrints.{thinnedRows, ThinAnswers}
+use Rattle.answering.specs.ThinSteps.{LinksHeld, AfterThinReading}
 use Rattle.answering.proofs.Calls.{Refuse, calls-to-last, calls-refuse, matches, lands-then}
-use Rattle.answering.proofs.ReadingRow.{typed-read, refusal-fits, got-fits}
 use Rattle.answering.proofs.write_refused.Symbol as ref-def
 use Rattle.answering.proofs.write_refused.Symbol.{name as #refuse}
 use Rattle.answering.proofs.write_refused.Met as ref-thm
@@ -73,7 +70,7 @@ module _ {M : Type 1} (𝓤 : URA M) (H : Heap 𝓤) (A : Atoms 𝓤) (mem : Mem
 module _ {M : Type 1} (𝓤 : URA M) (H : Heap 𝓤) (A : Atoms 𝓤) (W : Given 𝓤 H A) (mem : Memory → SProp 𝓤) (run : Routine → Fun 𝓤) (κ₀ κ₁ : Lft) (q₀ q₁ : Share) (x : RefT (List Link)) (z : RefT (List ℕ))
     (room : Room R (length (x .now))) (room-z : Room u8 (length (z .now))) where
   abbrev at : Reading → Vals f.signature (κ₀, (κ₁, tt))
-  at g = (told g ∷ [], (slice-vals x, (slice-vals z, tt)))
+  at g = (reading .lowered g ∷ [], (slice-vals x, (slice-vals z, tt)))
 
   abbrev bound : Reading → walkOf 𝓤 H A f.ended stayed (f.clauses 𝓤 H A mem run) .Ghost
   bound g = (((κ₀, (κ₁, tt)), (q₀, (q₁, tt)), tt, (g, (x, (z, tt))), at g), tt)
@@ -84,13 +81,13 @@ module _ {M : Type 1} (𝓤 : URA M) (H : Heap 𝓤) (A : Atoms 𝓤) (W : Given
   abbrev OwnOut : Fml
   OwnOut = MutSlice (named 0) κ₁ u8 .own z (slice-vals z)
 
-  exits : (g : Reading) → Is D g (told g ∷ []) → (r : Written) (u : Val) (out′ : List ℕ) → length out′ ≡ length (z .now) → AfterReading g (x .now) (z .now) out′ r
+  exits : (g : Reading) → Is D g (reading .lowered g ∷ []) → (r : Written) (u : Val) (out′ : List ℕ) → length out′ ≡ length (z .now) → AfterThinReading g (x .now) (z .now) out′ r
       → ent 𝓤 (⋆ 𝓤 H A (‵ (finally u8 (z .name) out′) ∷ ‵ (flft κ₁ q₁) ∷ ‵ (Wn .own r (u ∷ [])) ∷ ‵ (Own κ₀ x) ∷ ‵ (flft κ₀ q₀) ∷ [])) (Post g u)
   exits g is r u out′ len e =
       qed W (‵ (finally u8 (z .name) out′) ∷ ‵ (flft κ₁ q₁) ∷ ‵ (Wn .own r (u ∷ [])) ∷ ‵ (Own κ₀ x) ∷ ‵ (flft κ₀ q₀) ∷ []) ∵
       suffices ! _ (ends-at 𝓤 H A f.ended stayed (f.clauses 𝓤 H A mem run) W (bound g) u r (tt, (tt, (out′, tt))) (tt, (tt, (len, tt)))) $ says ! e $
       nothing ! $ move ! (2 ∷ 0 ∷ []) $ join ! $ move ! (4 ∷ 0 ∷ []) $ join ! $ frame ! $
-      nothing ! $ move ! (1 ∷ 0 ∷ []) $ fjoin ! $ move ! (2 ∷ 0 ∷ []) $ fjoin ! $ owned ! D (Is D) (made-reading 𝓤 H A W) g (told g ∷ []) is $ fjoin ! $ frame ! $ done !
+      nothing ! $ move ! (1 ∷ 0 ∷ []) $ fjoin ! $ move ! (2 ∷ 0 ∷ []) $ fjoin ! $ owned ! D (Is D) (reading-row 𝓤 H A W .made) g (reading .lowered g ∷ []) is $ fjoin ! $ frame ! $ done !
 
   -- the call of `thin_read` on the first links: what it is passed, and what it asks
   module _ (n k count : ℕ) (γ : GName) where
@@ -112,28 +109,28 @@ module _ {M : Type 1} (𝓤 : URA M) (H : Heap 𝓤) (A : Atoms 𝓤) (W : Given
 
   module _ (𝓣 : Tables 𝓤 H) (known-refuse : Triple 𝓤 (𝓣 .C #refuse) (Refuse 𝓤 H A mem run)) (known-thin : Triple 𝓤 (𝓣 .C #thin-read) (Thin 𝓤 H A mem run)) where
     -- a refusal is written
-    walk-refused : (number place : ℕ) → (is : Is D (Refused number place) (told (Refused number place) ∷ [])) → LinksHeld (Refused number place) (length (x .now))
+    walk-refused : (number place : ℕ) → (is : Is D (Refused number place) (reading .lowered (Refused number place) ∷ [])) → LinksHeld (Refused number place) (length (x .now))
         → ent 𝓤 (onEntry 𝓤 H A f.signature (κ₀, (κ₁, tt)) (q₀, (q₁, tt)) (bound (Refused number place) .0 .3) (at (Refused number place)))
-        (WpFn 𝓤 H (𝓣 .C) (𝓣 .Λ) code.function (told (Refused number place) ∷ sliceVal (x .ptr) (length (x .now)) ∷ sliceVal (z .ptr) (length (z .now)) ∷ []) (Post (Refused number place)))
-    unfolding LinksHeld AfterReading
+        (WpFn 𝓤 H (𝓣 .C) (𝓣 .Λ) code.function (reading .lowered (Refused number place) ∷ sliceVal (x .ptr) (length (x .now)) ∷ sliceVal (z .ptr) (length (z .now)) ∷ []) (Post (Refused number place)))
+    unfolding LinksHeld AfterThinReading
     walk-refused number place is held =
         qed W ((‵ (flft κ₀ q₀) ⊛ ‵ (flft κ₁ q₁) ⊛ ‵ ftrue) ∷ ‵ (owns (D ∷ ShrSlice (named 0) κ₀ R ∷ MutSlice (named 1) κ₁ u8 ∷ []) (bound (Refused number place) .0 .3) (at (Refused number place))) ∷ []) ∵
-        enter ! (𝓣 .C) (𝓣 .Λ) code.function (told (Refused number place) ∷ sliceVal (x .ptr) (length (x .now)) ∷ sliceVal (z .ptr) (length (z .now)) ∷ []) _ $
+        enter ! (𝓣 .C) (𝓣 .Λ) code.function (reading .lowered (Refused number place) ∷ sliceVal (x .ptr) (length (x .now)) ∷ sliceVal (z .ptr) (length (z .now)) ∷ []) _ $
         alloc1 ! (λ l₀. alloc1 ! (λ l₁. alloc1 ! (λ l₂. alloc1 ! (λ l₃. alloc1 ! (λ l₄. alloc1 ! (λ l₅. alloc1 ! (λ l₆. alloc1 ! (λ l₇. alloc1 ! (λ l₈. alloc1 ! (λ l₉. alloc1 ! (λ l₁₀. alloc1 ! (λ l₁₁. alloc1 ! (λ l₁₂. alloc1 ! (λ l₁₃. alloc1 ! (λ l₁₄. alloc1 ! (λ l₁₅. alloc1 ! (λ l₁₆. alloc1 ! (λ l₁₇. alloc1 ! (λ l₁₈. alloc0 ! $ params1 ! $
-        pass1 ! (init ! 34 refl (typed-read 𝓤 H A W (Refused number place) _ is)) $ pass1 ! (init ! 32 refl (tt, (tt, (record { fits = room .0 }, tt)))) $ pass1 ! (init ! 30 refl (tt, (tt, (record { fits = room-z .0 }, tt)))) $ pass0 ! $
+        pass1 ! (init ! 34 refl (reading-row 𝓤 H A W .typed (Refused number place) _ is)) $ pass1 ! (init ! 32 refl (tt, (tt, (record { fits = room .0 }, tt)))) $ pass1 ! (init ! 30 refl (tt, (tt, (record { fits = room-z .0 }, tt)))) $ pass0 ! $
         move ! (38 ∷ []) $ split ! $ move ! (1 ∷ []) $ split ! $ move ! (1 ∷ []) $ drop ! $ move ! (40 ∷ []) $ fsplit ! $ drop ! $ fsplit ! $ move ! (1 ∷ []) $ fsplit ! $ move ! (1 ∷ []) $ drop ! $
         move ! (1 ∷ 3 ∷ 0 ∷ 2 ∷ []) $
         -- [what the links own; their token; what the text space owns; its; _18; ..; _0; ..]
         matches ! 38 (whole !) (load ! (from ! (vrt ! refl (fld ! refl (stop !)))) (look-tag ! 38 (whole !))) tt (
-          (λ _. assigns ! (of-opd ! (load ! (from ! (vrt ! refl (fld ! refl (stop !)))) (look-in ! 38 (in-variant ! 0 0 refl refl (whole !))))) (from ! (stop !)) (init ! 32 refl (tt, record { fits = refusal-fits number place _ is .0 })) $
-              assigns ! (of-opd ! (load ! (from ! (vrt ! refl (fld ! refl (stop !)))) (look-in ! 38 (in-variant ! 0 1 refl refl (whole !))))) (from ! (stop !)) (init ! 30 refl (tt, record { fits = refusal-fits number place _ is .1 })) $
+          (λ _. assigns ! (of-opd ! (load ! (from ! (vrt ! refl (fld ! refl (stop !)))) (look-in ! 38 (in-variant ! 0 0 refl refl (whole !))))) (from ! (stop !)) (init ! 32 refl (tt, record { fits = reading-refused number place _ is .0 })) $
+              assigns ! (of-opd ! (load ! (from ! (vrt ! refl (fld ! refl (stop !)))) (look-in ! 38 (in-variant ! 0 1 refl refl (whole !))))) (from ! (stop !)) (init ! 30 refl (tt, record { fits = reading-refused number place _ is .1 })) $
               assigns ! (addr ! (from ! (fld ! refl (hop ! (look-in ! 34 (sub ! 0 refl (whole !))) (stop !))))) (from ! (stop !)) (init ! 18 refl (tt, tt)) $
               assigns ! (agg ! (and-then ! (load ! (from ! (stop !)) (look ! 18 refl)) (and-then ! (load ! (from ! (fld ! refl (stop !))) (look-in ! 34 (sub ! 1 refl (whole !)))) (no-more !)))) (from ! (stop !)) (init ! 16 refl (tt, (tt, (record { fits = room-z .0 }, tt)))) $
-              move ! (2 ∷ 3 ∷ []) $ calls-refuse ! mem run (fmOf 𝓤 H (W .laws) 𝓣) known-refuse number place z (refusal-fits number place _ is .0) (refusal-fits number place _ is .1) held
+              move ! (2 ∷ 3 ∷ []) $ calls-refuse ! mem run (fmOf 𝓤 H (W .laws) 𝓣) known-refuse number place z (reading-refused number place _ is .0) (reading-refused number place _ is .1) held
               (and-then ! (load ! (from ! (stop !)) (look ! 31 refl)) (and-then ! (load ! (from ! (stop !)) (look ! 29 refl)) (and-then ! (load ! (from ! (stop !)) (look ! 15 refl)) (no-more !)))) (λ r u out′ isr len e.
               -- [the last text space; its token; the answer; what the links own; their token; _18; ..; _0; ..]
-              lands-then ! (from ! (stop !)) (init ! 21 refl (typed-held 𝓤 H A W r u isr)) $
-              assigns ! (of-opd ! (load ! (from ! (stop !)) (look ! 21 refl))) (from ! (stop !)) (init ! 41 refl (typed-held 𝓤 H A W r u isr)) $
+              lands-then ! (from ! (stop !)) (init ! 21 refl (written-row 𝓤 H A W .typed r u isr)) $
+              assigns ! (of-opd ! (load ! (from ! (stop !)) (look ! 21 refl))) (from ! (stop !)) (init ! 41 refl (written-row 𝓤 H A W .typed r u isr)) $
               returns ! (look ! 41 refl) $ forget ! 17 refl $ forget ! 19 refl $ forget ! 21 refl $ forget ! 31 refl $ forget ! 33 refl $ forget ! 35 refl $ forget ! 37 refl $ forget ! 39 refl $ forget ! 41 refl $
               move ! (41 ∷ 42 ∷ []) $ free1 ! $ move ! (39 ∷ 40 ∷ []) $ free1 ! $ move ! (37 ∷ 38 ∷ []) $ free1 ! $ move ! (35 ∷ 36 ∷ []) $ free1 ! $ move ! (33 ∷ 34 ∷ []) $ free1 ! $ move ! (31 ∷ 32 ∷ []) $ free1 ! $ move ! (29 ∷ 30 ∷ []) $ free1 ! $ move ! (27 ∷ 28 ∷ []) $ free1 ! $ move ! (25 ∷ 26 ∷ []) $ free1 ! $ move ! (23 ∷ 24 ∷ []) $ free1 ! $ move ! (21 ∷ 22 ∷ []) $ free1 ! $ move ! (19 ∷ 20 ∷ []) $ free1 ! $ move ! (17 ∷ 18 ∷ []) $ free1 ! $ move ! (15 ∷ 16 ∷ []) $ free1 ! $ move ! (13 ∷ 14 ∷ []) $ free1 ! $ move ! (11 ∷ 12 ∷ []) $ free1 ! $ move ! (9 ∷ 10 ∷ []) $ free1 ! $ move ! (7 ∷ 8 ∷ []) $ free1 ! $ move ! (5 ∷ 6 ∷ []) $ free1 ! $ free0 ! $
               by ! (exits (Refused number place) is r u out′ len e))),
@@ -141,19 +138,19 @@ module _ {M : Type 1} (𝓤 : URA M) (H : Heap 𝓤) (A : Atoms 𝓤) (W : Given
         ))))))))))))))))))))
 
     -- what was read is thinned
-    walk-got : (n k count cuts : ℕ) → (is : Is D (Got n k count cuts) (told (Got n k count cuts) ∷ [])) → LinksHeld (Got n k count cuts) (length (x .now))
+    walk-got : (n k count cuts : ℕ) → (is : Is D (Got n k count cuts) (reading .lowered (Got n k count cuts) ∷ [])) → LinksHeld (Got n k count cuts) (length (x .now))
         → ent 𝓤 (onEntry 𝓤 H A f.signature (κ₀, (κ₁, tt)) (q₀, (q₁, tt)) (bound (Got n k count cuts) .0 .3) (at (Got n k count cuts)))
-        (WpFn 𝓤 H (𝓣 .C) (𝓣 .Λ) code.function (told (Got n k count cuts) ∷ sliceVal (x .ptr) (length (x .now)) ∷ sliceVal (z .ptr) (length (z .now)) ∷ []) (Post (Got n k count cuts)))
-    unfolding LinksHeld AfterReading
+        (WpFn 𝓤 H (𝓣 .C) (𝓣 .Λ) code.function (reading .lowered (Got n k count cuts) ∷ sliceVal (x .ptr) (length (x .now)) ∷ sliceVal (z .ptr) (length (z .now)) ∷ []) (Post (Got n k count cuts)))
+    unfolding LinksHeld AfterThinReading
     walk-got n k count cuts is held =
-        let small = got-fits n k count cuts _ is in
+        let small = reading-got n k count cuts _ is in
         let gn : n < 2 ^ 64 = omega (arith, small .bones) in
         let gk : k < 2 ^ 64 = omega (arith, small .threshold) in
         let gc : count < 2 ^ 64 = omega (arith, small .links-fit) in
         qed W ((‵ (flft κ₀ q₀) ⊛ ‵ (flft κ₁ q₁) ⊛ ‵ ftrue) ∷ ‵ (owns (D ∷ ShrSlice (named 0) κ₀ R ∷ MutSlice (named 1) κ₁ u8 ∷ []) (bound (Got n k count cuts) .0 .3) (at (Got n k count cuts))) ∷ []) ∵
-        enter ! (𝓣 .C) (𝓣 .Λ) code.function (told (Got n k count cuts) ∷ sliceVal (x .ptr) (length (x .now)) ∷ sliceVal (z .ptr) (length (z .now)) ∷ []) _ $
+        enter ! (𝓣 .C) (𝓣 .Λ) code.function (reading .lowered (Got n k count cuts) ∷ sliceVal (x .ptr) (length (x .now)) ∷ sliceVal (z .ptr) (length (z .now)) ∷ []) _ $
         alloc1 ! (λ l₀. alloc1 ! (λ l₁. alloc1 ! (λ l₂. alloc1 ! (λ l₃. alloc1 ! (λ l₄. alloc1 ! (λ l₅. alloc1 ! (λ l₆. alloc1 ! (λ l₇. alloc1 ! (λ l₈. alloc1 ! (λ l₉. alloc1 ! (λ l₁₀. alloc1 ! (λ l₁₁. alloc1 ! (λ l₁₂. alloc1 ! (λ l₁₃. alloc1 ! (λ l₁₄. alloc1 ! (λ l₁₅. alloc1 ! (λ l₁₆. alloc1 ! (λ l₁₇. alloc1 ! (λ l₁₈. alloc0 ! $ params1 ! $
-        pass1 ! (init ! 34 refl (typed-read 𝓤 H A W (Got n k count cuts) _ is)) $ pass1 ! (init ! 32 refl (tt, (tt, (record { fits = room .0 }, tt)))) $ pass1 ! (init ! 30 refl (tt, (tt, (record { fits = room-z .0 }, tt)))) $ pass0 ! $
+        pass1 ! (init ! 34 refl (reading-row 𝓤 H A W .typed (Got n k count cuts) _ is)) $ pass1 ! (init ! 32 refl (tt, (tt, (record { fits = room .0 }, tt)))) $ pass1 ! (init ! 30 refl (tt, (tt, (record { fits = room-z .0 }, tt)))) $ pass0 ! $
         move ! (38 ∷ []) $ split ! $ move ! (1 ∷ []) $ split ! $ move ! (1 ∷ []) $ drop ! $ move ! (40 ∷ []) $ fsplit ! $ drop ! $ fsplit ! $ move ! (1 ∷ []) $ fsplit ! $ move ! (1 ∷ []) $ drop ! $
         move ! (1 ∷ 3 ∷ 0 ∷ 2 ∷ []) $
         -- [what the links own; their token; what the text space owns; its; _18; ..; _0; ..]
@@ -184,8 +181,8 @@ module _ {M : Type 1} (𝓤 : URA M) (H : Heap 𝓤) (A : Atoms 𝓤) (W : Given
                 peeks ! Wn (Is Wn) (shows 𝓤 H A Wn) r (u ∷ []) (λ isr. move ! (1 ∷ []) $ use1 W (‵ (flft κ₀ q₀) ⊛ ‵ (flft κ₁ q₁) ⊛ ‵ ftrue) (id⊢ 𝓤 _) $ split ! $ move ! (1 ∷ []) $ split ! $ move ! (1 ∷ []) $ drop ! $
                 move ! (3 ∷ []) $ fsplit ! $ drop ! $ fsplit ! $ drop ! $ fsplit ! $ drop ! $ fsplit ! $ fsplit ! $ move ! (1 ∷ []) $ feqL ! (λ len. move ! (1 ∷ []) $ drop ! $
                 -- [the last text space; the tokens of text and links; the answer; what the links own; _18; ..; _0; ..]
-                lands-then ! (from ! (stop !)) (init ! 21 refl (typed-held 𝓤 H A W r u isr)) $
-                assigns ! (of-opd ! (load ! (from ! (stop !)) (look ! 21 refl))) (from ! (stop !)) (init ! 41 refl (typed-held 𝓤 H A W r u isr)) $
+                lands-then ! (from ! (stop !)) (init ! 21 refl (written-row 𝓤 H A W .typed r u isr)) $
+                assigns ! (of-opd ! (load ! (from ! (stop !)) (look ! 21 refl))) (from ! (stop !)) (init ! 41 refl (written-row 𝓤 H A W .typed r u isr)) $
                 returns ! (look ! 41 refl) $ forget ! 5 refl $ forget ! 7 refl $ forget ! 9 refl $ forget ! 11 refl $ forget ! 13 refl $ forget ! 15 refl $ forget ! 21 refl $ forget ! 23 refl $ forget ! 25 refl $ forget ! 27 refl $ forget ! 29 refl $ forget ! 35 refl $ forget ! 37 refl $ forget ! 39 refl $ forget ! 41 refl $
                 move ! (41 ∷ 42 ∷ []) $ free1 ! $ move ! (39 ∷ 40 ∷ []) $ free1 ! $ move ! (37 ∷ 38 ∷ []) $ free1 ! $ move ! (35 ∷ 36 ∷ []) $ free1 ! $ move ! (33 ∷ 34 ∷ []) $ free1 ! $ move ! (31 ∷ 32 ∷ []) $ free1 ! $ move ! (29 ∷ 30 ∷ []) $ free1 ! $ move ! (27 ∷ 28 ∷ []) $ free1 ! $ move ! (25 ∷ 26 ∷ []) $ free1 ! $ move ! (23 ∷ 24 ∷ []) $ free1 ! $ move ! (21 ∷ 22 ∷ []) $ free1 ! $ move ! (19 ∷ 20 ∷ []) $ free1 ! $ move ! (17 ∷ 18 ∷ []) $ free1 ! $ move ! (15 ∷ 16 ∷ []) $ free1 ! $ move ! (13 ∷ 14 ∷ []) $ free1 ! $ move ! (11 ∷ 12 ∷ []) $ free1 ! $ move ! (9 ∷ 10 ∷ []) $ free1 ! $ move ! (7 ∷ 8 ∷ []) $ free1 ! $ move ! (5 ∷ 6 ∷ []) $ free1 ! $ free0 ! $
                 move ! (0 ∷ 1 ∷ 3 ∷ 4 ∷ 2 ∷ []) $ by ! (exits (Got n k count cuts) is r u (ws .1 .1 .1 .0) len e)))))),
@@ -193,25 +190,20 @@ module _ {M : Type 1} (𝓤 : URA M) (H : Heap 𝓤) (A : Atoms 𝓤) (W : Given
           ),
         ))))))))))))))))))))
 
-    walk : (g : Reading) (is : Is D g (told g ∷ [])) → LinksHeld g (length (x .now))
-        → ent 𝓤 (onEntry 𝓤 H A f.signature (κ₀, (κ₁, tt)) (q₀, (q₁, tt)) (bound g .0 .3) (at g)) (WpFn 𝓤 H (𝓣 .C) (𝓣 .Λ) code.function (told g ∷ sliceVal (x .ptr) (length (x .now)) ∷ sliceVal (z .ptr) (length (z .now)) ∷ []) (Post g))
+    walk : (g : Reading) (is : Is D g (reading .lowered g ∷ [])) → LinksHeld g (length (x .now))
+        → ent 𝓤 (onEntry 𝓤 H A f.signature (κ₀, (κ₁, tt)) (q₀, (q₁, tt)) (bound g .0 .3) (at g)) (WpFn 𝓤 H (𝓣 .C) (𝓣 .Λ) code.function (reading .lowered g ∷ sliceVal (x .ptr) (length (x .now)) ∷ sliceVal (z .ptr) (length (z .now)) ∷ []) (Post g))
     walk (Refused number place) = walk-refused number place
     walk (Got n k count cuts) = walk-got n k count cuts
 
 pub after-reading-spec : {M : Type 1} → stated.statement M
-unfolding code.routine tablesOf
+unfolding code.routine
 after-reading-spec 𝓤 H 𝓜 𝓖 𝓡 =
-    let 𝓣 : Tables 𝓤 H = tablesOf 𝓤 H 𝓜 (tables 𝓤 H 𝓜 𝓡 code.env) in
-    let W : Given 𝓤 H (𝓖 .A) = givenOf 𝓤 H 𝓜 𝓖 in
-    entered 𝓤 H (tripleOf 𝓤 H (𝓖 .A) f.signature (f.spec 𝓤 H (𝓖 .A) (𝓜 .mem) (𝓡 .run)))
-    (tables 𝓤 H 𝓜 𝓡 code.env .C) (tables 𝓤 H 𝓜 𝓡 code.env .Λ) #after-reading code.function (code.unfolded 𝓤 H 𝓜 𝓡)
-    (walk-meets 𝓤 H (𝓖 .A) f.ended stayed W
-    (goes-none 𝓤 H (𝓖 .A) W 2 (λ _. D) yes (λ κs x f. refl), (goes-none-slice 𝓤 H (𝓖 .A) W 2 (0 ∷ []) tt (plain (λ _. R)) yes, (goes-gave-slice 𝓤 H (𝓖 .A) W 2 1 tt (plain (λ _. u8)), tt)))
-    (f.clauses 𝓤 H (𝓖 .A) (𝓜 .mem) (𝓡 .run)) (WpFn 𝓤 H (𝓣 .C) (𝓣 .Λ) code.function) (WpFn-mono 𝓤 H (W .laws) 𝓣 code.function)
-    (walked 𝓤 H (𝓖 .A) f.ended stayed (f.clauses 𝓤 H (𝓖 .A) (𝓜 .mem) (𝓡 .run)) (WpFn 𝓤 H (𝓣 .C) (𝓣 .Λ) code.function)
-    (λ κs. ((λ g. told g ∷ []), (slice-vals, (slice-vals, tt)))) (λ κs. (told-so, (shr-slice-tells (named 0) (κs .0) R, (mut-slice-tells (named 1) (κs .1 .0) u8, tt))))
-    (λ κs qs bounds a g are. needs 𝓤 _ _ (λ asked. walk 𝓤 H (𝓖 .A) W (𝓜 .mem) (𝓡 .run) (κs .0) (κs .1 .0) (qs .0) (qs .1 .0) (a .1 .0) (a .1 .1 .0)
+    meets 𝓤 H 𝓜 𝓖 𝓡 code.env f.ended stayed (f.clauses 𝓤 H (𝓖 .A) (𝓜 .mem) (𝓡 .run)) #after-reading code.function (code.unfolded 𝓤 H 𝓜 𝓡)
+    (λ W. (goes-none 𝓤 H (𝓖 .A) W 2 (λ _. D) yes (λ κs x f. refl), (goes-none-slice 𝓤 H (𝓖 .A) W 2 (0 ∷ []) tt (plain (λ _. R)) yes, (goes-gave-slice 𝓤 H (𝓖 .A) W 2 1 tt (plain (λ _. u8)), tt))))
+    (λ κs. ((λ g. reading .lowered g ∷ []), (slice-vals, (slice-vals, tt))))
+    (λ κs. (reading .val-is, (shr-slice-tells (named 0) (κs .0) R, (mut-slice-tells (named 1) (κs .1 .0) u8, tt))))
+    (λ W 𝓣 known κs qs bounds a g are. needs 𝓤 _ _ (λ asked. walk 𝓤 H (𝓖 .A) W (𝓜 .mem) (𝓡 .run) (κs .0) (κs .1 .0) (qs .0) (qs .1 .0) (a .1 .0) (a .1 .1 .0)
     (are .1 .0 .0 .1) (are .1 .1 .0 .0 .1) 𝓣
-    (cited 𝓤 H (Refuse 𝓤 H (𝓖 .A) (𝓜 .mem) (𝓡 .run)) 𝓜 𝓡 code.env #refuse ref-def.routine code.calls-answering·write-refused (ref-thm.met 𝓤 H 𝓜 𝓖 𝓡))
-    (cited 𝓤 H (Thin 𝓤 H (𝓖 .A) (𝓜 .mem) (𝓡 .run)) 𝓜 𝓡 code.env #thin-read thn-def.routine code.calls-answering·thin·thin-read (thn-thm.met 𝓤 H 𝓜 𝓖 𝓡))
-    (a .0) (are .0) asked))))
+    (known #refuse ref-def.routine code.calls-answering·write-refused (Refuse 𝓤 H (𝓖 .A) (𝓜 .mem) (𝓡 .run)) (ref-thm.met 𝓤 H 𝓜 𝓖 𝓡))
+    (known #thin-read thn-def.routine code.calls-answering·thin·thin-read (Thin 𝓤 H (𝓖 .A) (𝓜 .mem) (𝓡 .run)) (thn-thm.met 𝓤 H 𝓜 𝓖 𝓡))
+    (a .0) (are .0) asked))

@@ -17,12 +17,11 @@ use prog.Routine.{Routine}
 use prog.Wp.{Heap, WpFn, Tables}
 use ghost.Atoms.{Atoms}
 use contract.Monad.{Fun}
-use contract.Running.{givenOf, tables, tablesOf}
 use types.Kit.{Given, ‵, raw, _⊛_, ⋆, some, later, _$_, _∵_, !, qed, by, move, drop, group, use1, use3, split, join, fsplit, fjoin, feqL, suffices, frame, pick, await, done}
 use types.Part.{whole, sub, look-in, agg, rep}
 use types.Run.{look, init, forget, stop, hop, fld, from, load, lit, addr, and-then, no-more, assigns, land, returns, enter, alloc1, alloc0, params1, pass1, pass0, free1, free0}
 use types.Tokens.{lft-new, lft-end, lent-back}
-use sound.WpLaws.{fmOf, WpFn-mono}
+use sound.WpLaws.{fmOf}
 use denote.RattleType.{owns}
 use denote.Laws.{Is, shows}
 use denote.Memory.{partAt}
@@ -38,13 +37,13 @@ use denote.Struct.Laws as LL
 use denote.Triple.Entry.{Vals, onEntry}
 use denote.Triple.Statement.{Contract, Triple}
 use denote.Triple.Spec.{tripleOf}
-use denote.Triple.Table.{entered, cited}
-use denote.Triple.Walked.{says, Stays, stay-none-slice, stay-none, gave-slice, walkOf, ends-at, walked, goes-none-slice, goes-none, goes-gave-slice, walk-meets}
+use denote.Triple.Walked.{says, Stays, stay-none-slice, stay-none, gave-slice, walkOf, ends-at, goes-none-slice, goes-none, goes-gave-slice}
 use denote.Exit.{yes}
 use Rattle.meaning.specs.declared.Link.{Link}
 use Rattle.meaning.specs.Judge.{first as first-of}
 use Rattle.meaning.proofs.Link as L
 use Rattle.meaning.proofs.Link.Laws as L′
+use Rattle.links.proofs.Meets.{meets}
 use Rattle.links.specs.Records.{noLink}
 use Rattle.links.proofs.RecordsLink.{R, val, vals, tells, no-link-is, typed, copied, made}
 use Rattle.links.proofs.RecordsCalls.{calls-to}
@@ -57,11 +56,10 @@ use Rattle.cutting.proofs.thinning_records.Symbol as thn-def
 use Rattle.cutting.proofs.thinning_records.Symbol.{name as #thinning-records}
 use Rattle.cutting.proofs.thinning_records.Met as thn-thm
 use Rattle.texts.specs.declared.Written.{Written}
-use Rattle.texts.proofs.WritesAnswer.{Wn, typed-held}
-use Rattle.answering.specs.Thins.{thinnedRows, ThinAnswers}
+use Rattle.texts.proofs.AnswerRows.{Th, Wn, thinned-row, written-row}
+use Rattle.answering.specs.ThinPrints.{thinnedRows, ThinAnswers}
 use Rattle.answering.specs.ThinSteps.{KeptHeld, AfterThinning}
 use Rattle.answering.proofs.AfterThin.{thinning-held, thinning-answers}
-use Rattle.answering.proofs.ThinnedRow.{Th, typed-thinned, made-thinned}
 use Rattle.answering.proofs.thin.after_thinning as aft
 use Rattle.answering.proofs.thin.after_thinning.Symbol as aft-def
 use Rattle.answering.proofs.thin.after_thinning.Symbol.{name as #after-thinning}
@@ -142,7 +140,7 @@ module _ {M : Type 1} (𝓤 : URA M) (H : Heap 𝓤) (A : Atoms 𝓤) (W : Given
         qed W (‵ (OwnShared R 4096 (ε ∷ []) b η kept) ∷ ‵ (flft (ε ∷ []) fullShare) ∷ ‵ OwnOut ∷ ‵ (flft κ₁ q₁) ∷ []) ∵ says ! held $
         nothing ! $ move ! (4 ∷ 0 ∷ []) $ join ! $ move ! (2 ∷ 0 ∷ []) $ join ! $ frame ! $
         nothing ! $ move ! (2 ∷ 0 ∷ []) $ fjoin ! $ move ! (1 ∷ 0 ∷ []) $ fjoin ! $ owned ! u64 (Is u64) (uint-makes 𝓤 H A W w64) k (vint w64 k ∷ []) (refl, gk) $ fjoin ! $
-        owned ! u64 (Is u64) (uint-makes 𝓤 H A W w64) n (vint w64 n ∷ []) (refl, gn) $ fjoin ! $ owned ! Th (Is Th) (made-thinned 𝓤 H A W) g (v ∷ []) is $ fjoin ! $ done !
+        owned ! u64 (Is u64) (uint-makes 𝓤 H A W w64) n (vint w64 n ∷ []) (refl, gn) $ fjoin ! $ owned ! Th (Is Th) (thinned-row 𝓤 H A W .made) g (v ∷ []) is $ fjoin ! $ done !
 
   module _ (𝓣 : Tables 𝓤 H) (known-thin : Triple 𝓤 (𝓣 .C #thinning-records) (Thin 𝓤 H A mem run)) (known-after : Triple 𝓤 (𝓣 .C #after-thinning) (After 𝓤 H A mem run)) where
     walk : ent 𝓤 (onEntry 𝓤 H A f.signature (κ₀, (κ₁, tt)) (q₀, (q₁, tt)) (bound .0 .3) at) (WpFn 𝓤 H (𝓣 .C) (𝓣 .Λ) code.function (vint w64 n ∷ vint w64 k ∷ sliceVal (x .ptr) (length (x .now)) ∷ sliceVal (z .ptr) (length (z .now)) ∷ []) Post)
@@ -176,7 +174,7 @@ module _ {M : Type 1} (𝓤 : URA M) (H : Heap 𝓤) (A : Atoms 𝓤) (W : Given
         -- [the last link space; α is over; the links' token; what they own; the lender's part; what the text space owns; its token; _13; ..]
         move ! (1 ∷ 4 ∷ 0 ∷ []) $ use3 W (later (‵ (partAt (Array R 4096) fullShare (ws .1 .1 .1 .0) l₆ 0))) (mut-back R 4096 𝓤 H A W (α ∷ []) γ (ws .1 .1 .1 .0) l₆) $ await ! tt $
         -- [the link space; the links' token; what they own; what the text space owns; its token; _13; ..]
-        land ! (from ! (stop !)) (init ! 17 refl (typed-thinned 𝓤 H A W g v is)) $ assigns ! (addr ! (from ! (stop !))) (from ! (stop !)) (init ! 11 refl (tt, tt)) $
+        land ! (from ! (stop !)) (init ! 17 refl (thinned-row 𝓤 H A W .typed g v is)) $ assigns ! (addr ! (from ! (stop !))) (from ! (stop !)) (init ! 11 refl (tt, tt)) $
         assigns ! (agg ! (and-then ! (load ! (from ! (stop !)) (look ! 11 refl)) (and-then ! (big-lit ! record { fits = lit< tt }) (no-more !)))) (from ! (stop !)) (init ! 9 refl (tt, (tt, (record { fits = lit< tt }, tt)))) $
         assigns ! (addr ! (from ! (fld ! refl (hop ! (look-in ! 22 (sub ! 0 refl (whole !))) (stop !))))) (from ! (stop !)) (init ! 7 refl (tt, tt)) $
         assigns ! (agg ! (and-then ! (load ! (from ! (stop !)) (look ! 7 refl)) (and-then ! (load ! (from ! (fld ! refl (stop !))) (look-in ! 22 (sub ! 1 refl (whole !)))) (no-more !)))) (from ! (stop !)) (init ! 5 refl (tt, (tt, (record { fits = room-z .0 }, tt)))) $
@@ -195,24 +193,19 @@ module _ {M : Type 1} (𝓤 : URA M) (H : Heap 𝓤) (A : Atoms 𝓤) (W : Given
         move ! (1 ∷ 4 ∷ []) $ lent-back ! tt $ use1 W (‵ (froom (localTy R 4096) l₆ 0)) (shared-room R 4096 𝓤 H A W vals tells (ws .1 .1 .1 .0) l₆) $
         move ! (3 ∷ []) $ fsplit ! $ drop ! $ fsplit ! $ drop ! $ fsplit ! $ drop ! $ fsplit ! $ drop ! $ fsplit ! $ fsplit ! $ move ! (1 ∷ []) $ feqL ! (λ len₂. move ! (1 ∷ []) $ drop ! $
         -- [the last text space; room for _6; the text's token; the answer; the links' token; what they own; _13; ..; _0; ..]
-        land ! (from ! (stop !)) (init ! 31 refl (typed-held 𝓤 H A W r u isr)) $
+        land ! (from ! (stop !)) (init ! 31 refl (written-row 𝓤 H A W .typed r u isr)) $
         returns ! (look ! 31 refl) $ forget ! 6 refl $ forget ! 8 refl $ forget ! 10 refl $ forget ! 12 refl $ forget ! 14 refl $ forget ! 16 refl $ forget ! 18 refl $ forget ! 21 refl $ forget ! 23 refl $ forget ! 25 refl $ forget ! 27 refl $ forget ! 29 refl $ forget ! 31 refl $
         move ! (31 ∷ 32 ∷ []) $ free1 ! $ move ! (29 ∷ 30 ∷ []) $ free1 ! $ move ! (27 ∷ 28 ∷ []) $ free1 ! $ move ! (25 ∷ 26 ∷ []) $ free1 ! $ move ! (23 ∷ 24 ∷ []) $ free1 ! $ move ! (21 ∷ 22 ∷ []) $ free1 ! $ move ! (1 ∷ 20 ∷ []) $ free1 ! $ move ! (17 ∷ 18 ∷ []) $ free1 ! $ move ! (15 ∷ 16 ∷ []) $ free1 ! $ move ! (13 ∷ 14 ∷ []) $ free1 ! $ move ! (11 ∷ 12 ∷ []) $ free1 ! $ move ! (9 ∷ 10 ∷ []) $ free1 ! $ move ! (7 ∷ 8 ∷ []) $ free1 ! $ move ! (5 ∷ 6 ∷ []) $ free1 ! $ free0 ! $
         by ! (exits r u (ws₂ .1 .1 .1 .1 .0) len₂ (thinning-answers n k (x .now) kept₀ (ws .1 .1 .1 .0) g many e (z .now) (ws₂ .1 .1 .1 .1 .0) r e₂))))))))))))))))))))))))))
 
 pub thin-read-spec : {M : Type 1} → stated.statement M
-unfolding code.routine tablesOf
+unfolding code.routine
 thin-read-spec 𝓤 H 𝓜 𝓖 𝓡 =
-    let 𝓣 : Tables 𝓤 H = tablesOf 𝓤 H 𝓜 (tables 𝓤 H 𝓜 𝓡 code.env) in
-    let W : Given 𝓤 H (𝓖 .A) = givenOf 𝓤 H 𝓜 𝓖 in
-    entered 𝓤 H (tripleOf 𝓤 H (𝓖 .A) f.signature (f.spec 𝓤 H (𝓖 .A) (𝓜 .mem) (𝓡 .run)))
-    (tables 𝓤 H 𝓜 𝓡 code.env .C) (tables 𝓤 H 𝓜 𝓡 code.env .Λ) #thin-read code.function (code.unfolded 𝓤 H 𝓜 𝓡)
-    (walk-meets 𝓤 H (𝓖 .A) f.ended stayed W
-    (goes-none 𝓤 H (𝓖 .A) W 2 (λ _. u64) yes (λ κs x f. refl), (goes-none 𝓤 H (𝓖 .A) W 2 (λ _. u64) yes (λ κs x f. refl), (goes-none-slice 𝓤 H (𝓖 .A) W 2 (0 ∷ []) tt (plain (λ _. R)) yes, (goes-gave-slice 𝓤 H (𝓖 .A) W 2 1 tt (plain (λ _. u8)), tt))))
-    (f.clauses 𝓤 H (𝓖 .A) (𝓜 .mem) (𝓡 .run)) (WpFn 𝓤 H (𝓣 .C) (𝓣 .Λ) code.function) (WpFn-mono 𝓤 H (W .laws) 𝓣 code.function)
-    (walked 𝓤 H (𝓖 .A) f.ended stayed (f.clauses 𝓤 H (𝓖 .A) (𝓜 .mem) (𝓡 .run)) (WpFn 𝓤 H (𝓣 .C) (𝓣 .Λ) code.function)
-    (λ κs. (uint-vals w64, (uint-vals w64, (slice-vals, (slice-vals, tt))))) (λ κs. (uint-tells w64, (uint-tells w64, (shr-slice-tells (named 0) (κs .0) R, (mut-slice-tells (named 1) (κs .1 .0) u8, tt)))))
-    (λ κs qs bounds a g are. via 𝓤 _ (fst∗ 𝓤 _ (emp 𝓤)) (walk 𝓤 H (𝓖 .A) W (𝓜 .mem) (𝓡 .run) (κs .0) (κs .1 .0) (qs .0) (qs .1 .0) (a .0) (a .1 .0) (a .1 .1 .0) (a .1 .1 .1 .0)
+    meets 𝓤 H 𝓜 𝓖 𝓡 code.env f.ended stayed (f.clauses 𝓤 H (𝓖 .A) (𝓜 .mem) (𝓡 .run)) #thin-read code.function (code.unfolded 𝓤 H 𝓜 𝓡)
+    (λ W. (goes-none 𝓤 H (𝓖 .A) W 2 (λ _. u64) yes (λ κs x f. refl), (goes-none 𝓤 H (𝓖 .A) W 2 (λ _. u64) yes (λ κs x f. refl), (goes-none-slice 𝓤 H (𝓖 .A) W 2 (0 ∷ []) tt (plain (λ _. R)) yes, (goes-gave-slice 𝓤 H (𝓖 .A) W 2 1 tt (plain (λ _. u8)), tt)))))
+    (λ κs. (uint-vals w64, (uint-vals w64, (slice-vals, (slice-vals, tt)))))
+    (λ κs. (uint-tells w64, (uint-tells w64, (shr-slice-tells (named 0) (κs .0) R, (mut-slice-tells (named 1) (κs .1 .0) u8, tt)))))
+    (λ W 𝓣 known κs qs bounds a g are. via 𝓤 _ (fst∗ 𝓤 _ (emp 𝓤)) (walk 𝓤 H (𝓖 .A) W (𝓜 .mem) (𝓡 .run) (κs .0) (κs .1 .0) (qs .0) (qs .1 .0) (a .0) (a .1 .0) (a .1 .1 .0) (a .1 .1 .1 .0)
     (are .0 .1) (are .1 .0 .1) (are .1 .1 .0 .0 .1) (are .1 .1 .1 .0 .0 .1) 𝓣
-    (cited 𝓤 H (Thin 𝓤 H (𝓖 .A) (𝓜 .mem) (𝓡 .run)) 𝓜 𝓡 code.env #thinning-records thn-def.routine code.calls-cutting·thinning-records (thn-thm.met 𝓤 H 𝓜 𝓖 𝓡))
-    (cited 𝓤 H (After 𝓤 H (𝓖 .A) (𝓜 .mem) (𝓡 .run)) 𝓜 𝓡 code.env #after-thinning aft-def.routine code.calls-answering·thin·after-thinning (aft-thm.met 𝓤 H 𝓜 𝓖 𝓡))))))
+    (known #thinning-records thn-def.routine code.calls-cutting·thinning-records (Thin 𝓤 H (𝓖 .A) (𝓜 .mem) (𝓡 .run)) (thn-thm.met 𝓤 H 𝓜 𝓖 𝓡))
+    (known #after-thinning aft-def.routine code.calls-answering·thin·after-thinning (After 𝓤 H (𝓖 .A) (𝓜 .mem) (𝓡 .run)) (aft-thm.met 𝓤 H 𝓜 𝓖 𝓡))))

@@ -13,7 +13,8 @@ use Rattle.calls.proofs.told.tell.Symbol as t-def
 use Rattle.calls.proofs.told.tell.Symbol.{name as #t}
 use Rattle.calls.proofs.told.tell.Met as t-thm
 use Rattle.calls.proofs.Telling.{meets}
-use Rattle.calls.proofs.Rows.{answer-row, told-row}
+use Rattle.texts.proofs.AnswerRows.{answer-row}
+use Rattle.calls.proofs.Rows.{told-row}
 use Rattle.calls.proofs.OneRoom.{Says, telling, walk}
 use Rattle.calls.proofs.records.bones_checking_records.Key.{name as #f}
 use Rattle.calls.proofs.records.bones_checking_records.Statement as stated

@@ -24,8 +24,8 @@ use Rattle.meaning.specs.declared.Link.{Link}
 use Rattle.links.proofs.RecordsLink.{R}
 use Rattle.cutting.specs.Calls.{ThinningRecords}
 use Rattle.cutting.proofs.Thinned as Thinned
-use Rattle.calls.specs.Told.{kept}
-use Rattle.calls.proofs.told.Count as Count
+use Rattle.calls.specs.Told.{toldThinned}
+use Rattle.calls.proofs.told.ToldCount as ToldCount
 use Rattle.cutting.proofs.thinning_records.Symbol as g-def
 use Rattle.cutting.proofs.thinning_records.Symbol.{name as #g}
 use Rattle.cutting.proofs.thinning_records.Met as g-thm
@@ -33,7 +33,8 @@ use Rattle.calls.proofs.told.tell_kept.Symbol as t-def
 use Rattle.calls.proofs.told.tell_kept.Symbol.{name as #t}
 use Rattle.calls.proofs.told.tell_kept.Met as t-thm
 use Rattle.calls.proofs.Telling.{Call, Callee, Teller, Caller, spelled, asks, tells, meets}
-use Rattle.calls.proofs.Rows.{thinned-row, count-row}
+use Rattle.texts.proofs.AnswerRows.{thinned-row}
+use Rattle.calls.proofs.Rows.{count-row}
 use Rattle.calls.proofs.records.bones_thinning_records.Key.{name as #f}
 use Rattle.calls.proofs.records.bones_thinning_records as f
 use Rattle.calls.proofs.records.bones_thinning_records.Statement as stated
@@ -45,9 +46,9 @@ told-call = record {
   params = f.signature .params;
   kept = f.ended .kept;
   answer = Thinned.the-row;
-  told = Count.the-row;
+  told = ToldCount.the-row;
   promise = λ κs a e. ThinningRecords (a .0) (a .1 .0) (now (a .1 .1 .0)) (now (a .1 .1 .1 .0)) (now (e .1 .1 .1 .0));
-  tells-as = kept;
+  tells-as = toldThinned;
 }
 
 module _ {M : Type 1} (𝓤 : URA M) (H : Heap 𝓤) (A : Atoms 𝓤) (W : Given 𝓤 H A) (𝓣 : Tables 𝓤 H) where

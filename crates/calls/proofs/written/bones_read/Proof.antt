@@ -23,7 +23,7 @@ use Rattle.meaning.specs.declared.Link.{Link}
 use Rattle.links.proofs.RecordsLink.{R}
 use Rattle.texts.specs.Reader.{Reads}
 use Rattle.texts.proofs.Reading as Reading
-use Rattle.calls.specs.Told.{got}
+use Rattle.calls.specs.Told.{toldReading}
 use Rattle.calls.proofs.told.Input as Input
 use Rattle.texts.proofs.reader.read.Symbol as g-def
 use Rattle.texts.proofs.reader.read.Symbol.{name as #g}
@@ -32,7 +32,8 @@ use Rattle.calls.proofs.told.tell_read.Symbol as t-def
 use Rattle.calls.proofs.told.tell_read.Symbol.{name as #t}
 use Rattle.calls.proofs.told.tell_read.Met as t-thm
 use Rattle.calls.proofs.Telling.{Call, Callee, Teller, Caller, spelled, asks, tells, meets}
-use Rattle.calls.proofs.Rows.{reading-row, input-row}
+use Rattle.texts.proofs.AnswerRows.{reading-row}
+use Rattle.calls.proofs.Rows.{input-row}
 use Rattle.calls.proofs.written.bones_read.Key.{name as #f}
 use Rattle.calls.proofs.written.bones_read as f
 use Rattle.calls.proofs.written.bones_read.Statement as stated
@@ -46,7 +47,7 @@ told-call = record {
   answer = Reading.the-row;
   told = Input.the-row;
   promise = λ κs a e. Reads (now (a .0)) (now (a .1 .0)) (now (e .1 .0)) (now (a .1 .1 .0)) (now (e .1 .1 .0));
-  tells-as = got;
+  tells-as = toldReading;
 }
 
 module _ {M : Type 1} (𝓤 : URA M) (H : Heap 𝓤) (A : Atoms 𝓤) (W : Given 𝓤 H A) (𝓣 : Tables 𝓤 H) where

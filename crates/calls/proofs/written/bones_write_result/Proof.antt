@@ -6,8 +6,8 @@ use Rattle.meaning.specs.Judge.{first}
 use Rattle.texts.specs.Writing.{Writes}
 use Rattle.texts.specs.Writers.{resultRows, resultText}
 use Rattle.texts.proofs.Written as Written
-use Rattle.calls.specs.Told.{wrote}
-use Rattle.calls.proofs.told.Count as Count
+use Rattle.calls.specs.Told.{toldWritten}
+use Rattle.calls.proofs.told.ToldCount as ToldCount
 use Rattle.texts.proofs.result.write_result.Symbol as g-def
 use Rattle.texts.proofs.result.write_result.Symbol.{name as #g}
 use Rattle.texts.proofs.result.write_result.Met as g-thm
@@ -15,7 +15,8 @@ use Rattle.calls.proofs.told.tell_written.Symbol as t-def
 use Rattle.calls.proofs.told.tell_written.Symbol.{name as #t}
 use Rattle.calls.proofs.told.tell_written.Met as t-thm
 use Rattle.calls.proofs.Telling.{meets}
-use Rattle.calls.proofs.Rows.{written-row, count-row}
+use Rattle.texts.proofs.AnswerRows.{written-row}
+use Rattle.calls.proofs.Rows.{count-row}
 use Rattle.calls.proofs.OneRoom.{Says, telling, walk}
 use Rattle.calls.proofs.written.bones_write_result.Key.{name as #f}
 use Rattle.calls.proofs.written.bones_write_result.Statement as stated
@@ -27,6 +28,6 @@ says n k links bytes text = Writes (first (resultRows n k links bytes (length te
 pub bones-write-result-spec : {M : Type 1} → stated.statement M
 unfolding code.routine
 bones-write-result-spec 𝓤 H 𝓜 𝓖 𝓡 =
-    meets (telling Written.the-row Count.the-row says wrote) 𝓤 H 𝓜 𝓖 𝓡 code.env #f #g #t code.function (code.unfolded 𝓤 H 𝓜 𝓡)
-    (λ 𝓣. walk 𝓤 H (𝓖 .A) (givenOf 𝓤 H 𝓜 𝓖) 𝓣 (written-row 𝓤 H (𝓖 .A) (givenOf 𝓤 H 𝓜 𝓖)) (count-row 𝓤 H (𝓖 .A) (givenOf 𝓤 H 𝓜 𝓖)) says wrote #g #t)
+    meets (telling Written.the-row ToldCount.the-row says toldWritten) 𝓤 H 𝓜 𝓖 𝓡 code.env #f #g #t code.function (code.unfolded 𝓤 H 𝓜 𝓡)
+    (λ 𝓣. walk 𝓤 H (𝓖 .A) (givenOf 𝓤 H 𝓜 𝓖) 𝓣 (written-row 𝓤 H (𝓖 .A) (givenOf 𝓤 H 𝓜 𝓖)) (count-row 𝓤 H (𝓖 .A) (givenOf 𝓤 H 𝓜 𝓖)) says toldWritten #g #t)
     g-def.routine code.calls-texts·result·write-result (g-thm.met 𝓤 H 𝓜 𝓖 𝓡) t-def.routine code.calls-calls·told·tell-written (t-thm.met 𝓤 H 𝓜 𝓖 𝓡)

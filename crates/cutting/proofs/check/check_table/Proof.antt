@@ -45,7 +45,7 @@ returns-3 c =
     let whole = c .before .before .before .before .before .before .enum-told2 .given .1 in
     let left = judged-names (a .n) (a .entries .now) _ (counted (c .before .before .before .before .before .before .before .before .before .before .before .before) .few-bones) whole (c .before .before .before .before .before .before .before .before .judge-record .ensures .1) in
     checked-accepted _ _ _ _ _ _ _ (passes (c .before .before .before .before .before .before .before .before .before .before .before .before) _ ∙ label-fits _ _ _ (c .before .before .before .before .before .before .before .before .before .before .before .if1 .left) ∙ sym (judged (c .before .before .before .before .before .before .before .before)) ∙ whole) _ _ (left .0)
-    (c .before .before .tell-piles .ensures .0) (c .before .before .tell-piles .ensures .1)
+    (c .before .before .tell-piles .ensures .0) (c .before .before .before .before .before .before .before .before .before .before .before .if1 .left) (c .before .before .tell-piles .ensures .1)
 
 returns-4 : tie.Need-returns-4
 returns-4 c =

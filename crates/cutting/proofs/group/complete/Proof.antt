@@ -5,12 +5,12 @@ use mathlib.Core.Bool.{true}
 use mathlib.Core.List.{List}
 use native.Mathlib.Omega.{arith}
 use lib.ListN.{length}
-use lib.Seq.{paste}
 use Rattle.meaning.specs.Heap.{piles}
 use Rattle.weighing.specs.Side.{heapOf}
 use Rattle.links.specs.Table.{held}
-use Rattle.cutting.specs.Names.{written}
-use Rattle.cutting.proofs.Entries.{paste-fits}
+use Rattle.meaning.specs.Room.{over, fitted}
+use Rattle.meaning.proofs.Room.{fitted-all}
+use Rattle.cutting.specs.Names.{names}
 use Rattle.cutting.specs.declared.Answer.the-variants.{Gave}
 use Rattle.cutting.specs.Record.{entrySize}
 use Rattle.cutting.specs.Finish.{Begun, Ended}
@@ -20,11 +20,11 @@ use Rattle.cutting.proofs.group.complete.Statement.{statement}
 use Rattle.cutting.proofs.group.complete.Tie as tie
 
 -- the given entries are put in whole: there is room for all that may come
-given : (c : tie.After-copy) → let a = c .before .before .before .before .before .args in c .copy .last .1 .0 ≡ paste (a .space .now) 0 (a .entries .now) (length (a .entries .now))
+given : (c : tie.After-copy) → let a = c .before .before .before .before .before .args in c .copy .last .1 .0 ≡ over (a .space .now) 0 (a .entries .now)
 given c =
     let s = c .before .before .before .before .before in
     let sound = record-sound _ _ _ _ (s .pre .1 .1 .0) in
-    c .copy .ensures ∙ paste-fits (s .args .space .now) 0 (s .args .entries .now) (omega (arith, sound .whole, sound .few, s .pre .0 .3))
+    c .copy .ensures ∙ fitted-all (s .args .space .now) 0 (s .args .entries .now) (omega (arith, sound .whole, sound .few, s .pre .0 .3))
 
 finish-requires : tie.Need-finish-requires
 finish-requires c κs =
@@ -33,11 +33,11 @@ finish-requires c κs =
     let sound = record-sound _ _ _ _ (s .pre .1 .1 .0) in (
       s .pre .1 .0,
       subst (λ (x : List ℕ). Begun (a .n) (held (a .table .now)) (a .k) (a .names .now) x (c .within .result .cuts)) (sym (given (c .before .before .before .before .before .before)))
-          (subst (λ (m : ℕ). Begun (a .n) (held (a .table .now)) (a .k) (a .names .now) (paste (a .space .now) 0 (a .entries .now) (length (a .entries .now))) m) (sym (c .within .ensures))
+          (subst (λ (m : ℕ). Begun (a .n) (held (a .table .now)) (a .k) (a .names .now) (over (a .space .now) 0 (a .entries .now)) m) (sym (c .within .ensures))
           (given-begins (a .n) (held (a .table .now)) (a .k) (a .entries .now) (a .space .now) sound (s .pre .0 .0) (s .pre .0 .3) (a .names .now) (s .pre .0 .1) (s .pre .0 .2) (s .pre .1 .1 .1) (s .pre .1 .1 .2))),
     )
 
-end : (c : tie.After-finish) → let a = c .before .before .before .before .before .before .before .before .before .before .before .before .args in Ended (a .n) (held (a .table .now)) (a .k) (paste (a .space .now) 0 (a .entries .now) (length (a .entries .now))) (length (a .entries .now) / entrySize) (c .finish .last .1 .1 .1 .0) (c .finish .last .1 .1 .1 .1 .0) (c .finish .result .cuts)
+end : (c : tie.After-finish) → let a = c .before .before .before .before .before .before .before .before .before .before .before .before .args in Ended (a .n) (held (a .table .now)) (a .k) (over (a .space .now) 0 (a .entries .now)) (length (a .entries .now) / entrySize) (c .finish .last .1 .1 .1 .0) (c .finish .last .1 .1 .1 .1 .0) (c .finish .result .cuts)
 end c =
     let a = c .before .before .before .before .before .before .before .before .before .before .before .before .args in
     subst (λ (x : List ℕ). Ended (a .n) (held (a .table .now)) (a .k) x (length (a .entries .now) / entrySize) (c .finish .last .1 .1 .1 .0) (c .finish .last .1 .1 .1 .1 .0) (c .finish .result .cuts)) (given (c .before .before .before .before .before .before .before))
@@ -51,7 +51,7 @@ returns c =
     let f = c .before .before .before .before .before .before .before .before .before in (
       ap (λ (m : ℕ). Gave m true) (c .count-piles .ensures ∙ ap (λ (m : ℕ). piles m (heapOf (f .finish .last .1 .1 .1 .0))) all ∙ ended-groups (a .n) (held (a .table .now)) (a .k) (a .entries .now) (a .space .now) (record-sound _ _ _ _ (s .pre .1 .1 .0)) (s .pre .0 .0) (s .pre .0 .3) _ _ _ (end f)),
       (
-        c .before .before .before .before .write-names .ensures ∙ ap (λ (m : ℕ). written m (heapOf (f .finish .last .1 .1 .1 .0)) (a .labels .now)) all ∙ ended-labels (a .n) (held (a .table .now)) (a .k) (a .entries .now) (a .space .now) (record-sound _ _ _ _ (s .pre .1 .1 .0)) (s .pre .0 .0) (s .pre .0 .3) _ _ _ (end f) (a .labels .now),
+        c .before .before .before .before .write-names .ensures ∙ ap (λ (m : ℕ). fitted (a .labels .now) 0 (names m (heapOf (f .finish .last .1 .1 .1 .0)))) all ∙ ap (fitted (a .labels .now) 0) (ended-labels (a .n) (held (a .table .now)) (a .k) (a .entries .now) (a .space .now) (record-sound _ _ _ _ (s .pre .1 .1 .0)) (s .pre .0 .0) (s .pre .0 .3) _ _ _ (end f)),
         ended-continued (a .n) (held (a .table .now)) (a .k) (a .entries .now) (a .space .now) (record-sound _ _ _ _ (s .pre .1 .1 .0)) (s .pre .0 .0) (s .pre .0 .3) _ _ _ (end f),
       ),
     )

@@ -53,7 +53,7 @@ returns-4 c =
     let done = c .before .before .before .before .complete .ensures in
     grouped-accepted _ _ _ _ _ _ _
     (passes (c .before .before .before .before .before .before .before .before .before .before .before .before .before .before .before .before) _ ∙ label-fits _ _ _ (c .before .before .before .before .before .before .before .before .before .before .before .before .before .before .before .if1 .left) ∙ space-fits _ _ _ (c .before .before .before .before .before .before .before .before .before .before .before .before .before .before .if2 .left) ∙ sym (judged (c .before .before .before .before .before .before .before .before .before .before .before)) ∙ c .before .before .before .before .before .before .before .before .before .enum-told2 .given .1)
-    _ _ _ (done .0) (done .1 .0) (done .1 .1)
+    _ _ _ (done .0) (c .before .before .before .before .before .before .before .before .before .before .before .before .before .before .before .if1 .left) (done .1 .0) (done .1 .1)
 
 returns-5 : tie.Need-returns-5
 returns-5 c =

@@ -8,7 +8,7 @@ use borrow.Author.Needs.{needs}
 use Rattle.meaning.specs.Count.{least}
 use Rattle.meaning.specs.Heap.{parted}
 use Rattle.weighing.specs.Side.{heapOf, sideOf}
-use Rattle.cutting.specs.Record.{cutOf}
+use Rattle.cutting.specs.Record.{entryCut}
 use Rattle.cutting.specs.Names.{names, renamedIn}
 use Rattle.cutting.proofs.Names.{length-names, names-same}
 use Rattle.cutting.proofs.Renaming.{renamed-in, renamed-out, renamed-next}
@@ -43,7 +43,7 @@ loop-again c =
     )
 
 returns : tie.Need-returns Inv-loop μ-loop
-unfolding parted cutOf
+unfolding parted entryCut
 returns c =
     let a = c .before .before .before .before .before .before .before .before .args in
     let side = sideOf (a .entry .side) in

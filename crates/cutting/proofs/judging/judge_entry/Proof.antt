@@ -9,14 +9,14 @@ use Rattle.cutting.proofs.Lawful.{stands-bone}
 use mathlib.Core.Path.{_≡_, sym, _∙_}
 use native.Mathlib.Omega.{arith}
 use borrow.Author.Tests.{not-true, not-false}
-use Rattle.cutting.specs.Record.{cutOf}
+use Rattle.cutting.specs.Record.{entryCut}
 use Rattle.cutting.proofs.Lawful.{weighed, entry-ten, entry-eleven, entry-twelve, entry-thirteen, entry-sound}
 use borrow.Author.Needs.{needs}
 use Rattle.cutting.proofs.judging.judge_entry.Statement.{statement}
 use Rattle.cutting.proofs.judging.judge_entry.Tie as tie
 
 returns : tie.Need-returns
-unfolding cutOf
+unfolding entryCut
 returns c = entry-ten _ _ _ _ _ _ (sym (c .before .stands .ensures) ∙ not-true _ (c .if1 .taken))
 
 -- what the rows behind know: the pile stands, the side is sound, the weight is right
@@ -38,25 +38,25 @@ astray-requires c κs =
     (s .pre, omega arith)
 
 returns-2 : tie.Need-returns-2
-unfolding cutOf
+unfolding entryCut
 returns-2 c =
     entry-eleven _ _ _ _ _ _ (stood (c .before .before .before .before)) (sym (c .before .astray .ensures) ∙ c .if2 .taken)
 
 returns-3 : tie.Need-returns-3
-unfolding cutOf
+unfolding entryCut
 returns-3 c =
     let s = c .before .before .before .before .before .before .before .before .before .before in
     entry-twelve _ _ _ _ _ _ (stood (c .before .before .before .before .before .before .before .before)) (sound (c .before .before .before .before))
     (λ e. c .if3 .taken (e ∙ sym (weighed (s .args .n) _ _ _ _ (s .pre) (c .before .weigh .ensures))))
 
 returns-4 : tie.Need-returns-4
-unfolding cutOf
+unfolding entryCut
 returns-4 c =
     let g = c .before .before in
     entry-thirteen _ _ _ _ _ _ (stood (g .before .before .before .before .before .before .before .before)) (sound (g .before .before .before .before)) (true-weight g) (c .if4 .taken)
 
 returns-5 : tie.Need-returns-5
-unfolding cutOf
+unfolding entryCut
 returns-5 c =
     let g = c .before .before in
     entry-sound _ _ _ _ _ _ (stood (g .before .before .before .before .before .before .before .before)) (sound (g .before .before .before .before)) (true-weight g) (c .if4 .left)

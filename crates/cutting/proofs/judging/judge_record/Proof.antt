@@ -8,7 +8,8 @@ use Rattle.meaning.specs.Heap.{Heap, left}
 use Rattle.links.specs.Table.{held}
 use Rattle.cutting.specs.Record.{entrySize, cutsOf}
 use Rattle.cutting.specs.RecordRows.{entriesRows, recordRows}
-use Rattle.cutting.specs.Names.{settled, names}
+use Rattle.meaning.specs.Room.{settled}
+use Rattle.cutting.specs.Names.{names}
 use Rattle.cutting.proofs.Lawful.{record-broken, record-long, record-fits}
 use Rattle.cutting.proofs.Parting.{heap-start}
 use Rattle.cutting.proofs.Names.{names-of-heap}

@@ -4,14 +4,16 @@ use mathlib.Core.List.{List}
 use mathlib.Core.Path.{_≡_, sym, _∙_, ap}
 use native.Mathlib.Numerals.{add-one}
 use native.Mathlib.Omega.{arith}
-use lib.ListN.{length, getD, set, length-set}
-use lib.Seq.{paste, paste-zero, paste-suc}
+use lib.ListN.{length, getD, set, take, length-set}
+use lib.Seq.{length-take-le, take-suc}
+use Rattle.meaning.specs.Room.{fitted}
+use Rattle.meaning.proofs.Room.{fitted-nil, fitted-next, fitted-most}
 use borrow.Author.Needs.{needs}
 use Rattle.cutting.proofs.record.copy.Statement.{statement}
 use Rattle.cutting.proofs.record.copy.Tie as tie
 
 abbrev Inv-loop : tie.InvT-loop
-Inv-loop from to₀ at count j₀ to j = (j ≤ count) × (to ≡ paste to₀ at from j) × (length to ≡ length to₀)
+Inv-loop from to₀ at count j₀ to j = (j ≤ count) × (to ≡ fitted to₀ at (take j from)) × (length to ≡ length to₀)
 
 abbrev μ-loop : tie.MeasureT-loop
 μ-loop from to₀ at count j₀ to j = count - j
@@ -19,7 +21,7 @@ abbrev μ-loop : tie.MeasureT-loop
 loop-holds : tie.Need-loop-holds Inv-loop μ-loop
 loop-holds c =
     let a = c .before .before .before .before .args in
-    (zero-le, paste-zero (a .to .now) (a .at) (a .from .now), omega arith)
+    (zero-le, sym (fitted-nil (a .to .now) (a .at)), omega arith)
 
 add-to : tie.Need-add-to Inv-loop μ-loop
 add-to c = omega (arith, c .before .before .before .lesser .ensures, c .before .before .before .before .less .ensures)
@@ -31,12 +33,12 @@ loop-again : tie.Need-loop-again Inv-loop μ-loop
 loop-again c =
     let a = c .before .before .before .before .before .before .before .args in
     let head = c .before .before .loop in
-    let read : head .j < length (a .from .now) = omega (arith, c .before .before .before .lesser .ensures) in
-    let put : a .at + head .j < length (a .to .now) = omega (arith, c .before .before .before .lesser .ensures, c .before .before .before .before .less .ensures) in (
+    let read : head .j < length (a .from .now) = omega (arith, c .before .before .before .lesser .ensures) in (
       omega arith,
       ap (λ (l : List ℕ). set l (a .at + head .j) (getD (a .from .now) (head .j) 0)) (head .inv .1)
-          ∙ paste-suc (a .to .now) (a .at) (a .from .now) (head .j) 0 put read
-          ∙ ap (λ (m : ℕ). paste (a .to .now) (a .at) (a .from .now) m) (sym (add-one (head .j))),
+          ∙ ap (λ (m : ℕ). set (fitted (a .to .now) (a .at) (take (head .j) (a .from .now))) (a .at + m) (getD (a .from .now) (head .j) 0)) (sym (length-take-le (head .j) (a .from .now) (omega arith)))
+          ∙ fitted-next (a .to .now) (a .at) (take (head .j) (a .from .now)) (getD (a .from .now) (head .j) 0)
+          ∙ ap (fitted (a .to .now) (a .at)) (sym (ap (λ (m : ℕ). take m (a .from .now)) (add-one (head .j)) ∙ take-suc (a .from .now) (head .j) 0 read)),
       simp length-set (head .inv .2),
     )
 
@@ -44,7 +46,7 @@ returns : tie.Need-returns Inv-loop μ-loop
 returns c =
     let a = c .before .before .before .before .before .before .args in
     let done : c .before .loop .j ≡ min (length (a .from .now)) (length (a .to .now) - a .at) = omega (arith, c .before .before .lesser .ensures, c .before .before .before .less .ensures) in
-    c .before .loop .inv .1 ∙ ap (λ (m : ℕ). paste (a .to .now) (a .at) (a .from .now) m) done
+    c .before .loop .inv .1 ∙ fitted-most (a .to .now) (a .at) (a .from .now) (c .before .loop .j) done
 
 pub copy-spec : {M : Type 1} → statement M
 copy-spec =

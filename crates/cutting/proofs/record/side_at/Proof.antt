@@ -3,7 +3,7 @@ use Prim.Native.Nat.{ℕ, _+_, _-_}
 use mathlib.Core.Path.{_≡_, _∙_, ap}
 use native.Mathlib.Omega.{arith}
 use lib.ListN.{length, take, drop, replicate, length-take, length-drop}
-use Rattle.cutting.proofs.Entries.{paste-fits, paste-over}
+use Rattle.meaning.proofs.Room.{over-all, fitted-all}
 use borrow.Author.Needs.{needs}
 use Rattle.cutting.proofs.record.side_at.Statement.{statement}
 use Rattle.cutting.proofs.record.side_at.Tie as tie
@@ -15,8 +15,8 @@ returns c =
     let sixteen : a .at + 16 - a .at ≡ 16 = omega arith in
     let long : length (take (a .at + 16 - a .at) rest) ≡ 16 = simp (length-take, length-drop) (omega arith) in
     c .before .copy .ensures
-    ∙ paste-fits (replicate 16 0) 0 (take (a .at + 16 - a .at) rest) (omega arith)
-    ∙ paste-over (replicate 16 0) (take (a .at + 16 - a .at) rest) long
+    ∙ fitted-all (replicate 16 0) 0 (take (a .at + 16 - a .at) rest) (omega arith)
+    ∙ over-all (replicate 16 0) (take (a .at + 16 - a .at) rest) long
     ∙ ap (λ (m : ℕ). take m rest) sixteen
 
 pub side-at-spec : {M : Type 1} → statement M

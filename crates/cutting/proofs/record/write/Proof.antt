@@ -1,8 +1,9 @@
 -- `cutting::heap::record::write` meets its contract. Assumes nothing.
-use Rattle.cutting.proofs.Entries.{put-none, put-whole, paste-fits, paste-more}
+use Rattle.meaning.specs.Room.{over}
+use Rattle.meaning.proofs.Room.{over-then, fitted-all}
+use Rattle.cutting.proofs.Entries.{put-none, put-whole}
 use Prim.Native.Nat.{ℕ, _+_, _*_, _≤_}
 use mathlib.Core.List.{List}
-use lib.Seq.{paste}
 use Rattle.cutting.specs.Record.{entrySize, headBytes, entryBytes}
 use borrow.Author.Needs.{needs}
 use mathlib.Core.Path.{_≡_, sym, _∙_, ap}
@@ -27,13 +28,12 @@ returns-2 c =
     let e = s .args .entry in
     let at = s .args .i * entrySize in
     let long : length (e .side) ≡ 16 = sym (length-map (e .side) _) ∙ s .good .1 .1 .0 .1 .1 .1 .1 .0 .1 .0 .1 in
-    let head = c .before .before .before .before .before .before .before .before .put-head .ensures in
+    let head = c .before .before .before .before .before .before .before .before .put-name-and-weight .ensures in
     let room : at + 5 + length (e .side) ≤ length (s .args .space .now) = omega arith in
     c .before .before .copy .ensures
-    ∙ paste-fits _ (s .args .i * entrySize + 5) (e .side) (omega arith)
-    ∙ ap (λ (x : List ℕ). paste x (s .args .i * entrySize + 5) (e .side) (length (e .side))) (c .before .before .before .before .before .before .before .before .put-head .ensures)
-    ∙ paste-more (s .args .space .now) at (headBytes (e .pile) (e .weight)) (e .side) (omega arith)
-    ∙ ap (λ (m : ℕ). paste (s .args .space .now) at (entryBytes e) (5 + m)) long
+    ∙ fitted-all _ (s .args .i * entrySize + 5) (e .side) (omega arith)
+    ∙ ap (λ (x : List ℕ). over x (s .args .i * entrySize + 5) (e .side)) (c .before .before .before .before .before .before .before .before .put-name-and-weight .ensures)
+    ∙ over-then (s .args .space .now) at (headBytes (e .pile) (e .weight)) (e .side) (omega arith)
     ∙ sym (put-whole (s .args .space .now) (s .args .i) e (c .before .before .before .before .before .before .before .before .before .before .if1 .left))
 
 pub write-spec : {M : Type 1} → statement M

@@ -18,13 +18,12 @@ use prog.Routine.{Routine}
 use prog.Wp.{Heap, WpFn, Tables}
 use ghost.Atoms.{Atoms}
 use contract.Monad.{Fun}
-use contract.Running.{givenOf, tables, tablesOf}
 use types.Kit.{Given, ‵, raw, _⊛_, ⋆, some, later, _$_, _∵_, !, qed, by, move, drop, group, use1, use3, split, split3, join, fsplit, fjoin, feqL, suffices, frame, pick, await, done}
 use types.Part.{whole, sub, look-in, agg, rep}
 use types.Run.{look, init, forget, stop, hop, fld, from, load, lit, addr, and-then, no-more, assigns, land, returns, enter, alloc1, alloc0, params1, pass1, pass0, free1, free0}
 use types.SemTy.{Body as Held}
 use types.Tokens.{lft-new, lft-end}
-use sound.WpLaws.{fmOf, WpFn-mono}
+use sound.WpLaws.{fmOf}
 use denote.RattleType.{owns}
 use denote.Laws.{Is, shows}
 use denote.Memory.{partAt, mem as in-memory}
@@ -39,13 +38,13 @@ use denote.Enum.Laws as EL
 use denote.Triple.Entry.{Vals, onEntry}
 use denote.Triple.Statement.{Contract, Triple}
 use denote.Triple.Spec.{tripleOf}
-use denote.Triple.Table.{entered, cited}
-use denote.Triple.Walked.{says, Stays, stay-none-slice, stay-none, gave-slice, walkOf, ends-at, walked, goes-none-slice, goes-none, goes-gave-slice, walk-meets}
+use denote.Triple.Walked.{says, Stays, stay-none-slice, stay-none, gave-slice, walkOf, ends-at, goes-none-slice, goes-none, goes-gave-slice}
 use denote.Exit.{yes}
 use Rattle.meaning.specs.declared.Link.{Link}
 use Rattle.meaning.specs.declared.Judged.{Judged}
 use Rattle.meaning.specs.declared.Judged.the-variants.{Accepted}
 use Rattle.meaning.specs.Judge.{first as first-of}
+use Rattle.links.proofs.Meets.{meets}
 use Rattle.links.specs.Links.{countRows}
 use Rattle.links.specs.Table.{held, filled}
 use Rattle.weighing.specs.Search.{Small}
@@ -176,13 +175,10 @@ module _ {M : Type 1} (𝓤 : URA M) (H : Heap 𝓤) (A : Atoms 𝓤) (W : Given
         by ! (exits r u (ws .1 .1 .1 .1 .1 .0) (ws .1 .1 .1 .1 .1 .1 .0) len₁ len₂ (judged-grouping n k true links j ej short (y .now) (z .now) (ws .1 .1 .1 .1 .1 .0) (s .now) (ws .1 .1 .1 .1 .1 .1 .0) r e)))))))))))))))))))))))))
 
 pub grouping-records-spec : {M : Type 1} → stated.statement M
-unfolding code.routine tablesOf
+unfolding code.routine
 grouping-records-spec 𝓤 H 𝓜 𝓖 𝓡 =
-    let 𝓣 : Tables 𝓤 H = tablesOf 𝓤 H 𝓜 (tables 𝓤 H 𝓜 𝓡 code.env) in
-    let W : Given 𝓤 H (𝓖 .A) = givenOf 𝓤 H 𝓜 𝓖 in
-    entered 𝓤 H (tripleOf 𝓤 H (𝓖 .A) f.signature (f.spec 𝓤 H (𝓖 .A) (𝓜 .mem) (𝓡 .run)))
-    (tables 𝓤 H 𝓜 𝓡 code.env .C) (tables 𝓤 H 𝓜 𝓡 code.env .Λ) #grouping-records code.function (code.unfolded 𝓤 H 𝓜 𝓡)
-    (walk-meets 𝓤 H (𝓖 .A) f.ended stayed W (
+    meets 𝓤 H 𝓜 𝓖 𝓡 code.env f.ended stayed (f.clauses 𝓤 H (𝓖 .A) (𝓜 .mem) (𝓡 .run)) #grouping-records code.function (code.unfolded 𝓤 H 𝓜 𝓡)
+    (λ W. (
       goes-none 𝓤 H (𝓖 .A) W 4 (λ _. u64) yes (λ κs x f. refl),
       (
         goes-none 𝓤 H (𝓖 .A) W 4 (λ _. u64) yes (λ κs x f. refl),
@@ -194,12 +190,10 @@ grouping-records-spec 𝓤 H 𝓜 𝓖 𝓡 =
           ),
         ),
       ),
-    )
-    (f.clauses 𝓤 H (𝓖 .A) (𝓜 .mem) (𝓡 .run)) (WpFn 𝓤 H (𝓣 .C) (𝓣 .Λ) code.function) (WpFn-mono 𝓤 H (W .laws) 𝓣 code.function)
-    (walked 𝓤 H (𝓖 .A) f.ended stayed (f.clauses 𝓤 H (𝓖 .A) (𝓜 .mem) (𝓡 .run)) (WpFn 𝓤 H (𝓣 .C) (𝓣 .Λ) code.function)
+    ))
     (λ κs. (uint-vals w64, (uint-vals w64, (slice-vals, (slice-vals, (slice-vals, (slice-vals, tt)))))))
     (λ κs. (uint-tells w64, (uint-tells w64, (shr-slice-tells (named 0) (κs .0) R, (shr-slice-tells (named 1) (κs .1 .0) u8, (mut-slice-tells (named 2) (κs .1 .1 .0) u8, (mut-slice-tells (named 3) (κs .1 .1 .1 .0) u8, tt)))))))
-    (λ κs qs bounds a g are. via 𝓤 _ (fst∗ 𝓤 _ (emp 𝓤)) (walk 𝓤 H (𝓖 .A) W (𝓜 .mem) (𝓡 .run) (κs .0) (κs .1 .0) (κs .1 .1 .0) (κs .1 .1 .1 .0) (qs .0) (qs .1 .0) (qs .1 .1 .0) (qs .1 .1 .1 .0) (a .0) (a .1 .0) (a .1 .1 .0) (a .1 .1 .1 .0) (a .1 .1 .1 .1 .0) (a .1 .1 .1 .1 .1 .0)
+    (λ W 𝓣 known κs qs bounds a g are. via 𝓤 _ (fst∗ 𝓤 _ (emp 𝓤)) (walk 𝓤 H (𝓖 .A) W (𝓜 .mem) (𝓡 .run) (κs .0) (κs .1 .0) (κs .1 .1 .0) (κs .1 .1 .1 .0) (qs .0) (qs .1 .0) (qs .1 .1 .0) (qs .1 .1 .1 .0) (a .0) (a .1 .0) (a .1 .1 .0) (a .1 .1 .1 .0) (a .1 .1 .1 .1 .0) (a .1 .1 .1 .1 .1 .0)
     (are .0 .1) (are .1 .0 .1) (are .1 .1 .0 .0 .1) (are .1 .1 .1 .0 .0 .1) (are .1 .1 .1 .1 .0 .0 .1) (are .1 .1 .1 .1 .1 .0 .0 .1) 𝓣
-    (cited 𝓤 H (FillRecords 𝓤 H (𝓖 .A) (𝓜 .mem) (𝓡 .run)) 𝓜 𝓡 code.env #fill-records fill-def.routine code.calls-links·records·fill-records (fill-thm.met 𝓤 H 𝓜 𝓖 𝓡))
-    (cited 𝓤 H (Core 𝓤 H (𝓖 .A) (𝓜 .mem) (𝓡 .run)) 𝓜 𝓡 code.env #group-judged core-def.routine code.calls-cutting·records·group-judged (core-thm.met 𝓤 H 𝓜 𝓖 𝓡))))))
+    (known #fill-records fill-def.routine code.calls-links·records·fill-records (FillRecords 𝓤 H (𝓖 .A) (𝓜 .mem) (𝓡 .run)) (fill-thm.met 𝓤 H 𝓜 𝓖 𝓡))
+    (known #group-judged core-def.routine code.calls-cutting·records·group-judged (Core 𝓤 H (𝓖 .A) (𝓜 .mem) (𝓡 .run)) (core-thm.met 𝓤 H 𝓜 𝓖 𝓡))))

@@ -20,11 +20,10 @@ use prog.Routine.{Routine}
 use prog.Wp.{Heap, Env, WpFn, Tables}
 use ghost.Atoms.{Atoms}
 use contract.Monad.{Fun, factI}
-use contract.Running.{givenOf, tables, tablesOf}
 use types.Kit.{Given, Item, ‵, _⊛_, ⋆, runs, atRet, Sq, _$_, _∵_, !, qed, by, move, drop, use1, split, join, fsplit, fjoin, suffices, frame, done}
 use types.Part.{whole, sub, look-in, agg, rep}
 use types.Run.{look, init, forget, stop, hop, fld, from, load, lit, addr, and-then, no-more, of-opd, assigns, first, skips, branches, land, returns, returns-within, enter, alloc1, alloc0, params1, pass1, pass0, free1, free0, exec}
-use sound.WpLaws.{fmOf, WpFn-mono}
+use sound.WpLaws.{fmOf}
 use denote.RattleType.{owns}
 use denote.Laws.{Is}
 use denote.Memory.{partAt, pointee}
@@ -38,16 +37,17 @@ use denote.Enum.Laws as EL
 use denote.Triple.Entry.{Vals, onEntry}
 use denote.Triple.Statement.{Contract, Triple}
 use denote.Triple.Spec.{tripleOf}
-use denote.Triple.Table.{entered, cited}
-use denote.Triple.Walked.{says, Stays, stay-none-slice, stay-none, gave-slice, walkOf, ends-at, walked, goes-none-slice, goes-none, goes-gave-slice, walk-meets}
+use denote.Triple.Walked.{says, Stays, stay-none-slice, stay-none, gave-slice, walkOf, ends-at, goes-none-slice, goes-none, goes-gave-slice}
 use denote.Exit.{yes}
 use Rattle.meaning.specs.declared.Link.{Link}
 use Rattle.meaning.specs.declared.Judged.{Judged}
 use Rattle.meaning.specs.declared.Judged.the-variants.{Accepted}
 use Rattle.meaning.specs.Judge.{first as first-of}
 use Rattle.meaning.specs.Firm.{label}
+use Rattle.links.proofs.Meets.{meets}
 use Rattle.links.specs.Links.{tableRows}
-use Rattle.links.specs.Records.{keptLinks, written}
+use Rattle.meaning.specs.Room.{fitted}
+use Rattle.links.specs.Records.{keptLinks}
 use Rattle.weighing.specs.Side.{heapOf}
 use Rattle.links.specs.Table.{held, filled}
 use Rattle.links.proofs.LinksBytes.{Short}
@@ -71,7 +71,8 @@ use Rattle.cutting.specs.Calls.{keeping, ThinningRecords}
 use Rattle.cutting.proofs.Judged.{judged-asked}
 use Rattle.cutting.proofs.JudgedThin.{not-refused, records-refused, kept-fits, records-kept}
 use Rattle.cutting.proofs.RecordsLabels.{Labels, labelsTy, blanks, blanks-typed, lies-blanks, labels-room}
-use Rattle.cutting.proofs.RecordsThin.{Labelled, OwnSpace, LabelJudged, KeepLinks, gives-up, calls-label, calls-keep}
+use Rattle.cutting.specs.Above.{LabelledAbove}
+use Rattle.cutting.proofs.RecordsThin.{OwnSpace, LabelJudged, KeepLinks, gives-up, calls-label, calls-keep}
 use Rattle.cutting.proofs.Thinned as Thn
 use Rattle.cutting.proofs.Thinned.Laws as Thn′
 use Rattle.cutting.proofs.records.label_judged.Symbol as label-def
@@ -153,7 +154,7 @@ module _ {M : Type 1} (𝓤 : URA M) (H : Heap 𝓤) (A : Atoms 𝓤) (W : Given
     few e ls ek = subst (λ (i : ℕ). i < 2 ^ 32) (sym ek) (kept-fits n k links j ej (z .now) r er e ls)
 
     told-kept : {w : Thinned} {count : ℕ} → r ≡ Accepted → Short links → (ls : List ℕ) → (r ≡ Accepted → (b : ℕ) → b < n → heapOf ls b ≡ label n (held (filled j noughts links)) k b) → (zs : List Link)
-        → count ≡ length (keptLinks ls links) → zs ≡ written (z .now) (keptLinks ls links) → w ≡ keeping r count → ThinningRecords n k links (z .now) zs w
+        → count ≡ length (keptLinks ls links) → zs ≡ fitted (z .now) 0 (keptLinks ls links) → w ≡ keeping r count → ThinningRecords n k links (z .now) zs w
     told-kept {w} {count} e short ls are zs ec ez ew = subst (ThinningRecords n k links (z .now) zs) (sym ew) (records-kept n k links j ej (z .now) r er e short ls (are e) zs count ec ez)
 
   module _ (𝓣 : Tables 𝓤 H) (known-fill : Triple 𝓤 (𝓣 .C #fill-records) (FillRecords 𝓤 H A mem run)) (known-label : Triple 𝓤 (𝓣 .C #label-judged) (LabelJudged 𝓤 H A mem run)) (known-refuses : Triple 𝓤 (𝓣 .C #refuses) (Refuses 𝓤 H A mem run))
@@ -173,7 +174,7 @@ module _ {M : Type 1} (𝓤 : URA M) (H : Heap 𝓤) (A : Atoms 𝓤) (W : Given
           ∷ holds (sliceTy (pointer (named 1))) l₄ (sliceVal (z .ptr) (length (z .now))) (holds (slice imm) l₃ (sliceVal (x .ptr) (length links)) (holds (tyInt w64) l₂ (vint w64 k) (holds (tyInt w64) l₁ (vint w64 n) (vacant Thn′.mir l₀ []))))))))))))))))
 
       decides : (j : Judged) → j ≡ first-of (tableRows n k true links) → (r : Judged) → IsJudged r → (t ls : List ℕ)
-          → Labelled n k j (length links) (length (z .now)) (filled j noughts links) r ls → Short links → (s : Bool) → s ≡ refused r
+          → LabelledAbove j n (filled j noughts links) k (length links) (length (z .now)) ls r → Short links → (s : Bool) → s ≡ refused r
           → Sq W (Had t ls r s) (runs (𝓣 .C) (𝓣 .Λ) En m.t-11 (atRet En Post))
       decides j ej r isr t ls el short s es =
           first ! $ branches ! (load ! (from ! (stop !)) (look ! 12 refl))
@@ -243,21 +244,16 @@ module _ {M : Type 1} (𝓤 : URA M) (H : Heap 𝓤) (A : Atoms 𝓤) (W : Given
         decides l₀ l₁ l₂ l₃ l₄ l₅ l₆ l₇ l₈ l₉ l₁₀ l₁₁ l₁₂ l₁₃ l₁₄ l₁₅ l₁₆ l₁₇ l₁₈ j ej r isr t ls el short s es)))))))))))))))))))))))
 
 pub thinning-records-spec : {M : Type 1} → stated.statement M
-unfolding code.routine tablesOf
+unfolding code.routine
 thinning-records-spec 𝓤 H 𝓜 𝓖 𝓡 =
-    let 𝓣 : Tables 𝓤 H = tablesOf 𝓤 H 𝓜 (tables 𝓤 H 𝓜 𝓡 code.env) in
-    let W : Given 𝓤 H (𝓖 .A) = givenOf 𝓤 H 𝓜 𝓖 in
-    entered 𝓤 H (tripleOf 𝓤 H (𝓖 .A) f.signature (f.spec 𝓤 H (𝓖 .A) (𝓜 .mem) (𝓡 .run)))
-    (tables 𝓤 H 𝓜 𝓡 code.env .C) (tables 𝓤 H 𝓜 𝓡 code.env .Λ) #thinning-records code.function (code.unfolded 𝓤 H 𝓜 𝓡)
-    (walk-meets 𝓤 H (𝓖 .A) f.ended stayed W
-    (goes-none 𝓤 H (𝓖 .A) W 2 (λ _. u64) yes (λ κs x f. refl), (goes-none 𝓤 H (𝓖 .A) W 2 (λ _. u64) yes (λ κs x f. refl), (goes-none-slice 𝓤 H (𝓖 .A) W 2 (0 ∷ []) tt (plain (λ _. R)) yes, (goes-gave-slice 𝓤 H (𝓖 .A) W 2 1 tt (plain (λ _. R)), tt))))
-    (f.clauses 𝓤 H (𝓖 .A) (𝓜 .mem) (𝓡 .run)) (WpFn 𝓤 H (𝓣 .C) (𝓣 .Λ) code.function) (WpFn-mono 𝓤 H (W .laws) 𝓣 code.function)
-    (walked 𝓤 H (𝓖 .A) f.ended stayed (f.clauses 𝓤 H (𝓖 .A) (𝓜 .mem) (𝓡 .run)) (WpFn 𝓤 H (𝓣 .C) (𝓣 .Λ) code.function)
-    (λ κs. (uint-vals w64, (uint-vals w64, (slice-vals, (slice-vals, tt))))) (λ κs. (uint-tells w64, (uint-tells w64, (shr-slice-tells (named 0) (κs .0) R, (mut-slice-tells (named 1) (κs .1 .0) R, tt)))))
-    (λ κs qs bounds a g are. via 𝓤 _ (fst∗ 𝓤 _ (emp 𝓤)) (walk 𝓤 H (𝓖 .A) W (𝓜 .mem) (𝓡 .run) (κs .0) (κs .1 .0) (qs .0) (qs .1 .0) (a .0) (a .1 .0) (a .1 .1 .0) (a .1 .1 .1 .0)
+    meets 𝓤 H 𝓜 𝓖 𝓡 code.env f.ended stayed (f.clauses 𝓤 H (𝓖 .A) (𝓜 .mem) (𝓡 .run)) #thinning-records code.function (code.unfolded 𝓤 H 𝓜 𝓡)
+    (λ W. (goes-none 𝓤 H (𝓖 .A) W 2 (λ _. u64) yes (λ κs x f. refl), (goes-none 𝓤 H (𝓖 .A) W 2 (λ _. u64) yes (λ κs x f. refl), (goes-none-slice 𝓤 H (𝓖 .A) W 2 (0 ∷ []) tt (plain (λ _. R)) yes, (goes-gave-slice 𝓤 H (𝓖 .A) W 2 1 tt (plain (λ _. R)), tt)))))
+    (λ κs. (uint-vals w64, (uint-vals w64, (slice-vals, (slice-vals, tt)))))
+    (λ κs. (uint-tells w64, (uint-tells w64, (shr-slice-tells (named 0) (κs .0) R, (mut-slice-tells (named 1) (κs .1 .0) R, tt)))))
+    (λ W 𝓣 known κs qs bounds a g are. via 𝓤 _ (fst∗ 𝓤 _ (emp 𝓤)) (walk 𝓤 H (𝓖 .A) W (𝓜 .mem) (𝓡 .run) (κs .0) (κs .1 .0) (qs .0) (qs .1 .0) (a .0) (a .1 .0) (a .1 .1 .0) (a .1 .1 .1 .0)
     (are .0 .1) (are .1 .0 .1) (are .1 .1 .0 .0 .1) (are .1 .1 .1 .0 .0 .1) 𝓣
-    (cited 𝓤 H (FillRecords 𝓤 H (𝓖 .A) (𝓜 .mem) (𝓡 .run)) 𝓜 𝓡 code.env #fill-records fill-def.routine code.calls-links·records·fill-records (fill-thm.met 𝓤 H 𝓜 𝓖 𝓡))
-    (cited 𝓤 H (LabelJudged 𝓤 H (𝓖 .A) (𝓜 .mem) (𝓡 .run)) 𝓜 𝓡 code.env #label-judged label-def.routine code.calls-cutting·records·label-judged (label-thm.met 𝓤 H 𝓜 𝓖 𝓡))
-    (cited 𝓤 H (Refuses 𝓤 H (𝓖 .A) (𝓜 .mem) (𝓡 .run)) 𝓜 𝓡 code.env #refuses ref-def.routine code.calls-cutting·records·refuses (ref-thm.met 𝓤 H 𝓜 𝓖 𝓡))
-    (cited 𝓤 H (KeepLinks 𝓤 H (𝓖 .A) (𝓜 .mem) (𝓡 .run)) 𝓜 𝓡 code.env #keep-links keep-def.routine code.calls-links·records·keep-links (keep-thm.met 𝓤 H 𝓜 𝓖 𝓡))
-    (cited 𝓤 H (Tells 𝓤 H (𝓖 .A) (𝓜 .mem) (𝓡 .run)) 𝓜 𝓡 code.env #thinned thin-def.routine code.calls-cutting·records·thinned (thin-thm.met 𝓤 H 𝓜 𝓖 𝓡))))))
+    (known #fill-records fill-def.routine code.calls-links·records·fill-records (FillRecords 𝓤 H (𝓖 .A) (𝓜 .mem) (𝓡 .run)) (fill-thm.met 𝓤 H 𝓜 𝓖 𝓡))
+    (known #label-judged label-def.routine code.calls-cutting·records·label-judged (LabelJudged 𝓤 H (𝓖 .A) (𝓜 .mem) (𝓡 .run)) (label-thm.met 𝓤 H 𝓜 𝓖 𝓡))
+    (known #refuses ref-def.routine code.calls-cutting·records·refuses (Refuses 𝓤 H (𝓖 .A) (𝓜 .mem) (𝓡 .run)) (ref-thm.met 𝓤 H 𝓜 𝓖 𝓡))
+    (known #keep-links keep-def.routine code.calls-links·records·keep-links (KeepLinks 𝓤 H (𝓖 .A) (𝓜 .mem) (𝓡 .run)) (keep-thm.met 𝓤 H 𝓜 𝓖 𝓡))
+    (known #thinned thin-def.routine code.calls-cutting·records·thinned (Tells 𝓤 H (𝓖 .A) (𝓜 .mem) (𝓡 .run)) (thin-thm.met 𝓤 H 𝓜 𝓖 𝓡))))

@@ -5,13 +5,13 @@ use mathlib.Core.Bool.{Bool}
 use mathlib.Core.List.{List}
 use native.Mathlib.Omega.{arith}
 use lib.ListN.{length, getD, take, drop, length-take, length-drop}
-use lib.Seq.{paste}
 use borrow.Author.Tests.{not-true, not-false}
 use Rattle.meaning.specs.declared.Link.{Link}
+use Rattle.meaning.specs.Room.{over}
+use Rattle.meaning.proofs.Room.{fitted-all}
 use Rattle.links.specs.Links.{linksOf, linkAt}
 use Rattle.links.proofs.LinksBytes.{linksOf-at}
 use Rattle.links.specs.Records.{sameLabel}
-use Rattle.cutting.proofs.Entries.{paste-fits}
 use Rattle.cutting.proofs.Keeping.{keeps-not, keeps-it}
 use borrow.Author.Needs.{needs}
 use Rattle.cutting.proofs.thin.keep_link.Statement.{statement}
@@ -36,9 +36,8 @@ returns-2 c =
     let s = c .before .before .before .before .before .before .before .before .before .before in
     keeps-it _ _ _ _ _ (read-so _ _ _ _ (s .pre .0) (c .before .before .before .before .before .before .before .link-at .ensures) (c .before .before .before .before .before .before .same-label .ensures) ∙ not-false _ (c .before .before .before .before .before .if1 .left))
     (c .before .before .copy .ensures
-    ∙ paste-fits (a .space .now) (a .kept * 4) (take (a .i * 4 + 4 - a .i * 4) rest) (omega (arith, ap (λ (m : ℕ). length (take m rest)) four, long, s .pre .1))
-    ∙ ap (λ (m : ℕ). paste (a .space .now) (a .kept * 4) (take m rest) (length (take m rest))) four
-    ∙ ap (λ (m : ℕ). paste (a .space .now) (a .kept * 4) (take 4 rest) m) long)
+    ∙ fitted-all (a .space .now) (a .kept * 4) (take (a .i * 4 + 4 - a .i * 4) rest) (omega (arith, ap (λ (m : ℕ). length (take m rest)) four, long, s .pre .1))
+    ∙ ap (λ (m : ℕ). over (a .space .now) (a .kept * 4) (take m rest)) four)
 
 pub keep-link-spec : {M : Type 1} → statement M
 keep-link-spec =

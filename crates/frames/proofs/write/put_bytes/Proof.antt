@@ -7,9 +7,10 @@ use native.Mathlib.Omega.{arith}
 use borrow.Author.Needs.{needs}
 use lib.ListN.{length, take, getD}
 use lib.Seq.{take-all}
+use Rattle.meaning.specs.Room.{over}
+use Rattle.meaning.proofs.Room.{over-nil}
 use Rattle.frames.specs.Frame.{byteSum, hex}
-use Rattle.frames.specs.Placing.{over}
-use Rattle.frames.proofs.Writes.{over-nil, next-hex, next-sum}
+use Rattle.frames.proofs.Writes.{next-hex, next-sum}
 use Rattle.frames.proofs.write.put_bytes.Statement.{statement}
 use Rattle.frames.proofs.write.put_bytes.Tie as tie
 

@@ -5,8 +5,8 @@ use mathlib.Core.Path.{ap, _∙_}
 use mathlib.Core.List.{[], _∷_}
 use native.Mathlib.Omega.{arith}
 use lib.ListN.{length, length-set}
+use Rattle.meaning.specs.Room.{over}
 use Rattle.frames.specs.Frame.{hex}
-use Rattle.frames.specs.Placing.{over}
 use Rattle.frames.proofs.Writes.{length-line, negated, line-made}
 use Rattle.frames.proofs.write.write_line.Statement.{statement}
 use Rattle.frames.proofs.write.write_line.Tie as tie

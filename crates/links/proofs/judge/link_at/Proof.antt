@@ -20,7 +20,7 @@ link-made bytes i tally e = rw e
 returns-2 : tie.Need-returns-2
 returns-2 c =
     let a = c .before .before .before .before .before .before .before .args in
-    link-made (now (a .links)) (a .i) _ (c .before .before .tally-of .ensures) ∙ sym (linksOf-at (now (a .links)) (a .i) _ (omega arith))
+    link-made (now (a .links)) (a .i) _ (c .before .before .tally-from-bytes .ensures) ∙ sym (linksOf-at (now (a .links)) (a .i) _ (omega arith))
 
 pub link-at-spec : {M : Type 1} → statement M
 link-at-spec =

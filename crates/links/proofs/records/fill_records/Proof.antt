@@ -24,11 +24,10 @@ use prog.Routine.{Routine}
 use prog.Wp.{Heap, Out, Env, Wp, WpFn, Tables, afterSeq, afterBlock, afterTurn, atReturn}
 use ghost.Atoms.{Atoms}
 use contract.Monad.{Fun}
-use contract.Running.{givenOf, tables, tablesOf}
 use types.Kit.{Given, Item, ‵, _⊛_, ⋆, runs, anyQ, atRet, Sq, _$_, _∵_, !, qed, by, move, drop, split, join, rewrite, fsplit, fjoin, suffices, frame, done}
 use types.Part.{whole, sub, look-in}
 use types.Run.{look, store, init, forget, stop, hop, fld, from, load, lit, true-lit, addr, and-then, no-more, of-opd, bin, assigns, assigns-last, first, blocks, stays, leaves-loop, land, returns, enter, alloc1, alloc0, params1, pass1, pass0, free1, free0, exec, Below, again, loops}
-use sound.WpLaws.{fmOf, WpFn-mono}
+use sound.WpLaws.{fmOf}
 use denote.RattleType.{owns}
 use denote.Laws.{Is}
 use denote.Plain.{uint-vals, uint-tells, uint-makes, bool-makes}
@@ -40,12 +39,12 @@ use denote.Steps.{owned, nothing}
 use denote.Triple.Entry.{Vals, onEntry}
 use denote.Triple.Statement.{Contract, Triple}
 use denote.Triple.Spec.{tripleOf}
-use denote.Triple.Table.{entered, cited}
-use denote.Triple.Walked.{says, Stays, stay-none-slice, stay-none, stay-ref, walkOf, ends-at, walked, goes-none-slice, goes-none, goes-ref, walk-meets}
+use denote.Triple.Walked.{says, Stays, stay-none-slice, stay-none, stay-ref, walkOf, ends-at, goes-none-slice, goes-none, goes-ref}
 use denote.Exit.{yes}
 use Rattle.meaning.specs.declared.Link.{Link}
 use Rattle.meaning.specs.declared.Judged.{Judged}
 use Rattle.meaning.specs.Judge.{first as first-of}
+use Rattle.links.proofs.Meets.{meets}
 use Rattle.links.specs.Links.{countRows, tableRows}
 use Rattle.links.specs.Table.{filled}
 use Rattle.links.specs.Records.{noLink, upTo}
@@ -211,20 +210,15 @@ module _ {M : Type 1} (𝓤 : URA M) (H : Heap 𝓤) (A : Atoms 𝓤) (W : Given
         looped l₀ l₁ l₂ l₃ l₄ l₅ l₆ l₇ l₈ l₉ l₁₀ l₁₁ (upTo c (length ys), 0, c, t, reached-first n k ys t c ec, held)))))))))))))))
 
 pub fill-records-spec : {M : Type 1} → stated.statement M
-unfolding code.routine tablesOf
+unfolding code.routine
 fill-records-spec 𝓤 H 𝓜 𝓖 𝓡 =
-    let 𝓣 : Tables 𝓤 H = tablesOf 𝓤 H 𝓜 (tables 𝓤 H 𝓜 𝓡 code.env) in
-    let W : Given 𝓤 H (𝓖 .A) = givenOf 𝓤 H 𝓜 𝓖 in
-    entered 𝓤 H (tripleOf 𝓤 H (𝓖 .A) f.signature (f.spec 𝓤 H (𝓖 .A) (𝓜 .mem) (𝓡 .run)))
-    (tables 𝓤 H 𝓜 𝓡 code.env .C) (tables 𝓤 H 𝓜 𝓡 code.env .Λ) #fill-records code.function (code.unfolded 𝓤 H 𝓜 𝓡)
-    (walk-meets 𝓤 H (𝓖 .A) f.ended stayed W
-    (goes-none 𝓤 H (𝓖 .A) W 2 (λ _. u64) yes (λ κs x f. refl), (goes-none 𝓤 H (𝓖 .A) W 2 (λ _. u64) yes (λ κs x f. refl), (goes-none-slice 𝓤 H (𝓖 .A) W 2 (0 ∷ []) tt (plain (λ _. R)) yes, (goes-ref 𝓤 H (𝓖 .A) W 2 1 tt (plain (λ _. Table)), tt))))
-    (f.clauses 𝓤 H (𝓖 .A) (𝓜 .mem) (𝓡 .run)) (WpFn 𝓤 H (𝓣 .C) (𝓣 .Λ) code.function) (WpFn-mono 𝓤 H (W .laws) 𝓣 code.function)
-    (walked 𝓤 H (𝓖 .A) f.ended stayed (f.clauses 𝓤 H (𝓖 .A) (𝓜 .mem) (𝓡 .run)) (WpFn 𝓤 H (𝓣 .C) (𝓣 .Λ) code.function)
-    (λ κs. (uint-vals w64, (uint-vals w64, (slice-vals, (ptr-vals, tt))))) (λ κs. (uint-tells w64, (uint-tells w64, (shr-slice-tells (named 0) (κs .0) R, (mut-tells (named 1) (κs .1 .0) Table, tt)))))
-    (λ κs qs bounds a g are. via 𝓤 _ (fst∗ 𝓤 _ (emp 𝓤)) (walk 𝓤 H (𝓖 .A) W (𝓜 .mem) (𝓡 .run) (κs .0) (κs .1 .0) (qs .0) (qs .1 .0) (a .0) (a .1 .0) (a .1 .1 .0)
+    meets 𝓤 H 𝓜 𝓖 𝓡 code.env f.ended stayed (f.clauses 𝓤 H (𝓖 .A) (𝓜 .mem) (𝓡 .run)) #fill-records code.function (code.unfolded 𝓤 H 𝓜 𝓡)
+    (λ W. (goes-none 𝓤 H (𝓖 .A) W 2 (λ _. u64) yes (λ κs x f. refl), (goes-none 𝓤 H (𝓖 .A) W 2 (λ _. u64) yes (λ κs x f. refl), (goes-none-slice 𝓤 H (𝓖 .A) W 2 (0 ∷ []) tt (plain (λ _. R)) yes, (goes-ref 𝓤 H (𝓖 .A) W 2 1 tt (plain (λ _. Table)), tt)))))
+    (λ κs. (uint-vals w64, (uint-vals w64, (slice-vals, (ptr-vals, tt)))))
+    (λ κs. (uint-tells w64, (uint-tells w64, (shr-slice-tells (named 0) (κs .0) R, (mut-tells (named 1) (κs .1 .0) Table, tt)))))
+    (λ W 𝓣 known κs qs bounds a g are. via 𝓤 _ (fst∗ 𝓤 _ (emp 𝓤)) (walk 𝓤 H (𝓖 .A) W (𝓜 .mem) (𝓡 .run) (κs .0) (κs .1 .0) (qs .0) (qs .1 .0) (a .0) (a .1 .0) (a .1 .1 .0)
     (a .1 .1 .1 .0 .ptr .0) (a .1 .1 .1 .0 .ptr .1) (a .1 .1 .1 .0 .name) (a .1 .1 .1 .0 .now) (are .0 .1) (are .1 .0 .1) (are .1 .1 .0 .0 .1) 𝓣
-    (cited 𝓤 H (Counts 𝓤 H (𝓖 .A) (𝓜 .mem) (𝓡 .run)) 𝓜 𝓡 code.env #judge-counts counts-def.routine code.calls-links·judge·judge-counts (counts-thm.met 𝓤 H 𝓜 𝓖 𝓡))
-    (cited 𝓤 H (Up 𝓤 H (𝓖 .A) (𝓜 .mem) (𝓡 .run)) 𝓜 𝓡 code.env #up-to up-def.routine code.calls-links·records·up-to (up-thm.met 𝓤 H 𝓜 𝓖 𝓡))
-    (cited 𝓤 H (LinkAt 𝓤 H (𝓖 .A) (𝓜 .mem) (𝓡 .run)) 𝓜 𝓡 code.env #link-at at-def.routine code.calls-links·record·link-at (at-thm.met 𝓤 H 𝓜 𝓖 𝓡))
-    (cited 𝓤 H (TakeRecord (a .1 .1 .1 .0 .ptr .0) (a .1 .1 .1 .0 .ptr .1) 𝓤 H (𝓖 .A) (𝓜 .mem) (𝓡 .run)) 𝓜 𝓡 code.env #take-record take-def.routine code.calls-links·records·take-record (take-thm.met 𝓤 H 𝓜 𝓖 𝓡))))))
+    (known #judge-counts counts-def.routine code.calls-links·judge·judge-counts (Counts 𝓤 H (𝓖 .A) (𝓜 .mem) (𝓡 .run)) (counts-thm.met 𝓤 H 𝓜 𝓖 𝓡))
+    (known #up-to up-def.routine code.calls-links·records·up-to (Up 𝓤 H (𝓖 .A) (𝓜 .mem) (𝓡 .run)) (up-thm.met 𝓤 H 𝓜 𝓖 𝓡))
+    (known #link-at at-def.routine code.calls-links·record·link-at (LinkAt 𝓤 H (𝓖 .A) (𝓜 .mem) (𝓡 .run)) (at-thm.met 𝓤 H 𝓜 𝓖 𝓡))
+    (known #take-record take-def.routine code.calls-links·records·take-record (TakeRecord (a .1 .1 .1 .0 .ptr .0) (a .1 .1 .1 .0 .ptr .1) 𝓤 H (𝓖 .A) (𝓜 .mem) (𝓡 .run)) (take-thm.met 𝓤 H 𝓜 𝓖 𝓡))))

@@ -17,11 +17,10 @@ use prog.Routine.{Routine}
 use prog.Wp.{Heap, WpFn, Tables}
 use ghost.Atoms.{Atoms}
 use contract.Monad.{Fun}
-use contract.Running.{givenOf, tables, tablesOf}
 use types.Kit.{Given, ‵, _⊛_, ⋆, _$_, _∵_, !, qed, by, move, drop, use1, split, join, fsplit, fjoin, suffices, frame, done}
 use types.Part.{rep}
 use types.Run.{look, init, forget, stop, from, load, lit, addr, and-then, no-more, assigns, land, returns, enter, alloc1, alloc0, params1, pass1, pass0, free1, free0}
-use sound.WpLaws.{fmOf, WpFn-mono}
+use sound.WpLaws.{fmOf}
 use denote.RattleType.{owns}
 use denote.Laws.{Is}
 use denote.Memory.{partAt}
@@ -33,13 +32,12 @@ use denote.Signature.{plain}
 use denote.Steps.{owned, nothing}
 use denote.Triple.Entry.{Vals, onEntry}
 use denote.Triple.Statement.{Triple}
-use denote.Triple.Spec.{tripleOf}
-use denote.Triple.Table.{entered, cited}
-use denote.Triple.Walked.{says, Stays, stay-none-slice, stay-none, walkOf, ends-at, walked, goes-none-slice, goes-none, walk-meets}
+use denote.Triple.Walked.{says, Stays, stay-none-slice, stay-none, walkOf, ends-at, goes-none-slice, goes-none}
 use denote.Exit.{yes}
 use Rattle.meaning.specs.declared.Link.{Link}
 use Rattle.meaning.specs.declared.Judged.{Judged}
 use Rattle.meaning.specs.Judge.{first as first-of}
+use Rattle.links.proofs.Meets.{meets}
 use Rattle.links.specs.Links.{tableRows}
 use Rattle.links.specs.Table.{filled}
 use Rattle.links.proofs.RecordsLink.{R, J, told, IsJudged, typed-judged, made-judged}
@@ -95,14 +93,11 @@ module _ {M : Type 1} (𝓤 : URA M) (H : Heap 𝓤) (A : Atoms 𝓤) (W : Given
         by ! (exits j isj ej))))))))
 
 pub judge-records-spec : {M : Type 1} → stated.statement M
-unfolding code.routine tablesOf
+unfolding code.routine
 judge-records-spec 𝓤 H 𝓜 𝓖 𝓡 =
-    let 𝓣 : Tables 𝓤 H = tablesOf 𝓤 H 𝓜 (tables 𝓤 H 𝓜 𝓡 code.env) in
-    let W : Given 𝓤 H (𝓖 .A) = givenOf 𝓤 H 𝓜 𝓖 in
-    entered 𝓤 H (tripleOf 𝓤 H (𝓖 .A) f.signature (f.spec 𝓤 H (𝓖 .A) (𝓜 .mem) (𝓡 .run)))
-    (tables 𝓤 H 𝓜 𝓡 code.env .C) (tables 𝓤 H 𝓜 𝓡 code.env .Λ) #judge-records code.function (code.unfolded 𝓤 H 𝓜 𝓡)
-    (walk-meets 𝓤 H (𝓖 .A) f.ended stayed W (goes-none 𝓤 H (𝓖 .A) W 1 (λ _. u64) yes (λ κs x f. refl), (goes-none 𝓤 H (𝓖 .A) W 1 (λ _. u64) yes (λ κs x f. refl), (goes-none-slice 𝓤 H (𝓖 .A) W 1 (0 ∷ []) tt (plain (λ _. R)) yes, tt)))
-    (f.clauses 𝓤 H (𝓖 .A) (𝓜 .mem) (𝓡 .run)) (WpFn 𝓤 H (𝓣 .C) (𝓣 .Λ) code.function) (WpFn-mono 𝓤 H (W .laws) 𝓣 code.function)
-    (walked 𝓤 H (𝓖 .A) f.ended stayed (f.clauses 𝓤 H (𝓖 .A) (𝓜 .mem) (𝓡 .run)) (WpFn 𝓤 H (𝓣 .C) (𝓣 .Λ) code.function) (λ κs. (uint-vals w64, (uint-vals w64, (slice-vals, tt)))) (λ κs. (uint-tells w64, (uint-tells w64, (shr-slice-tells (named 0) (κs .0) R, tt))))
-    (λ κs qs bounds a g are. via 𝓤 _ (fst∗ 𝓤 _ (emp 𝓤)) (walk 𝓤 H (𝓖 .A) W (𝓜 .mem) (𝓡 .run) (κs .0) (qs .0) (a .0) (a .1 .0) (a .1 .1 .0) (are .0 .1) (are .1 .0 .1) (are .1 .1 .0 .0 .1) 𝓣
-    (cited 𝓤 H (FillRecords 𝓤 H (𝓖 .A) (𝓜 .mem) (𝓡 .run)) 𝓜 𝓡 code.env #fill-records fill-def.routine code.calls-links·records·fill-records (fill-thm.met 𝓤 H 𝓜 𝓖 𝓡))))))
+    meets 𝓤 H 𝓜 𝓖 𝓡 code.env f.ended stayed (f.clauses 𝓤 H (𝓖 .A) (𝓜 .mem) (𝓡 .run)) #judge-records code.function (code.unfolded 𝓤 H 𝓜 𝓡)
+    (λ W. (goes-none 𝓤 H (𝓖 .A) W 1 (λ _. u64) yes (λ κs x f. refl), (goes-none 𝓤 H (𝓖 .A) W 1 (λ _. u64) yes (λ κs x f. refl), (goes-none-slice 𝓤 H (𝓖 .A) W 1 (0 ∷ []) tt (plain (λ _. R)) yes, tt))))
+    (λ κs. (uint-vals w64, (uint-vals w64, (slice-vals, tt))))
+    (λ κs. (uint-tells w64, (uint-tells w64, (shr-slice-tells (named 0) (κs .0) R, tt))))
+    (λ W 𝓣 known κs qs bounds a g are. via 𝓤 _ (fst∗ 𝓤 _ (emp 𝓤)) (walk 𝓤 H (𝓖 .A) W (𝓜 .mem) (𝓡 .run) (κs .0) (qs .0) (a .0) (a .1 .0) (a .1 .1 .0) (are .0 .1) (are .1 .0 .1) (are .1 .1 .0 .0 .1) 𝓣
+    (known #fill-records fill-def.routine code.calls-links·records·fill-records (FillRecords 𝓤 H (𝓖 .A) (𝓜 .mem) (𝓡 .run)) (fill-thm.met 𝓤 H 𝓜 𝓖 𝓡))))

@@ -25,11 +25,10 @@ use prog.Routine.{Routine}
 use prog.Wp.{Heap, Out, Env, Wp, WpFn, Tables, afterSeq, afterBlock, afterTurn, atReturn}
 use ghost.Atoms.{Atoms}
 use contract.Monad.{Fun}
-use contract.Running.{givenOf, tables, tablesOf}
 use types.Kit.{Given, Item, ‵, _⊛_, ⋆, runs, anyQ, atRet, Sq, _$_, _∵_, !, qed, by, move, drop, split, join, rewrite, fsplit, fjoin, suffices, frame, done}
 use types.Part.{whole, sub, look-in, agg}
 use types.Run.{look, store, init, forget, stop, hop, fld, from, load, lit, addr, and-then, no-more, of-opd, bin, assigns, assigns-last, first, skips, blocks, branches, stays, leaves-loop, land, returns, enter, alloc1, alloc0, params1, pass1, pass0, free1, free0, exec, Below, again, loops}
-use sound.WpLaws.{fmOf, WpFn-mono}
+use sound.WpLaws.{fmOf}
 use denote.RattleType.{RattleType, owns}
 use denote.Laws.{Is}
 use denote.Memory.{pointee}
@@ -42,12 +41,14 @@ use denote.Steps.{owned, nothing}
 use denote.Triple.Entry.{Vals, onEntry}
 use denote.Triple.Statement.{Contract, Triple}
 use denote.Triple.Spec.{tripleOf}
-use denote.Triple.Table.{entered, cited}
-use denote.Triple.Walked.{says, Stays, stay-none-slice, stay-none-ref, stay-slice, walkOf, ends-at, walked, goes-none-slice, goes-none-ref, goes-slice, walk-meets}
+use denote.Triple.Walked.{says, Stays, stay-none-slice, stay-none-ref, stay-slice, walkOf, ends-at, goes-none-slice, goes-none-ref, goes-slice}
 use denote.Exit.{yes}
 use Rattle.meaning.specs.declared.Link.{Link}
-use Rattle.links.specs.Records.{noLink, sameLabel, keptLinks, written}
-use Rattle.links.proofs.RecordsKept.{keptOf, kept-none, kept-all, kept-yes, kept-no, kept-most, written-yes, written-none, length-written}
+use Rattle.meaning.specs.Room.{fitted}
+use Rattle.meaning.proofs.Room.{fitted-nil, length-fitted}
+use Rattle.links.specs.Records.{noLink, sameLabel, keptLinks}
+use Rattle.links.proofs.RecordsKept.{keptOf, kept-none, kept-all, kept-yes, kept-no, kept-most, written-yes}
+use Rattle.links.proofs.Meets.{meets}
 use Rattle.links.proofs.RecordsLink.{R, link, val, IsLink, typed, made, slice}
 use Rattle.links.proofs.RecordsCalls.{calls-over}
 use Rattle.links.proofs.RecordsRead.{Own, LinkAt, calls-link-at}
@@ -129,12 +130,12 @@ module _ {M : Type 1} (𝓤 : URA M) (H : Heap 𝓤) (A : Atoms 𝓤) (W : Given
 
   -- what is had of the three references, with the room written to with ks
   abbrev Refs : List Link → List (Item 𝓤) → List (Item 𝓤)
-  Refs ks Γ = ‵ (Own κ₀ x) ∷ ‵ (flft κ₀ q₀) ∷ ‵ OwnLabels ∷ ‵ (flft κ₁ q₁) ∷ ‵ (OwnOut b o κ₂ γ (length zs) (written zs ks)) ∷ ‵ (flft κ₂ q₂) ∷ Γ
+  Refs ks Γ = ‵ (Own κ₀ x) ∷ ‵ (flft κ₀ q₀) ∷ ‵ OwnLabels ∷ ‵ (flft κ₁ q₁) ∷ ‵ (OwnOut b o κ₂ γ (length zs) (fitted zs 0 ks)) ∷ ‵ (flft κ₂ q₂) ∷ Γ
 
   exits : (ks : List Link) → ks ≡ keptLinks labels ys → length ks < 2 ^ 64 → ent 𝓤 (⋆ 𝓤 H A (Refs ks [])) (Post (vint w64 (length ks)))
   exits ks e fits =
       qed W (Refs ks []) ∵
-      suffices ! _ (ends-at 𝓤 H A f.ended stayed (f.clauses 𝓤 H A mem run) W bound (vint w64 (length ks)) (length ks) (tt, (tt, (written zs ks, tt))) (tt, (tt, (length-written zs ks, tt)))) $ says ! (ap length e, ap (written zs) e) $
+      suffices ! _ (ends-at 𝓤 H A f.ended stayed (f.clauses 𝓤 H A mem run) W bound (vint w64 (length ks)) (length ks) (tt, (tt, (fitted zs 0 ks, tt))) (tt, (tt, (length-fitted zs 0 ks, tt)))) $ says ! (ap length e, ap (fitted zs 0) e) $
       nothing ! $ move ! (6 ∷ 0 ∷ []) $ join ! $ move ! (4 ∷ 0 ∷ []) $ join ! $ move ! (2 ∷ 0 ∷ []) $ join ! $ frame ! $
       nothing ! $ move ! (3 ∷ 0 ∷ []) $ fjoin ! $ move ! (2 ∷ 0 ∷ []) $ fjoin ! $ move ! (1 ∷ 0 ∷ []) $ fjoin ! $ frame ! $ owned ! usize (Is usize) (uint-makes 𝓤 H A W w64) (length ks) _ (refl, fits) $ done !
 
@@ -201,7 +202,7 @@ module _ {M : Type 1} (𝓤 : URA M) (H : Heap 𝓤) (A : Atoms 𝓤) (W : Given
           first ! $ branches ! (load ! (from ! (stop !)) (look ! 12 refl))
           (λ yes′. assigns ! (addr ! (from ! (fld ! refl (hop ! (look-in ! 24 (sub ! 0 refl (whole !))) (stop !))))) (from ! (stop !)) (init ! 8 refl (tt, tt)) $
           assigns ! (agg ! (and-then ! (load ! (from ! (stop !)) (look ! 8 refl)) (and-then ! (load ! (from ! (fld ! refl (stop !))) (look-in ! 24 (sub ! 1 refl (whole !)))) (no-more !)))) (from ! (stop !)) (init ! 6 refl (tt, (tt, (record { fits = out-room .0 }, tt)))) $
-          move ! (4 ∷ 5 ∷ []) $ calls-store ! mem run (fmOf 𝓤 H (W .laws) 𝓣) known-store (length zs) (written zs (keptOf labels ys (i .0))) (length (keptOf labels ys (i .0))) (getD ys (i .0) noLink) (length-written zs (keptOf labels ys (i .0))) out-room (kept-fits i) is
+          move ! (4 ∷ 5 ∷ []) $ calls-store ! mem run (fmOf 𝓤 H (W .laws) 𝓣) known-store (length zs) (fitted zs 0 (keptOf labels ys (i .0))) (length (keptOf labels ys (i .0))) (getD ys (i .0) noLink) (length-fitted zs 0 (keptOf labels ys (i .0))) out-room (kept-fits i) is
           (λ α δ. and-then ! (load ! (from ! (stop !)) (look ! 6 refl)) (and-then ! (load ! (from ! (stop !)) (look ! 20 refl)) (and-then ! (load ! (from ! (stop !)) (look ! 16 refl)) (no-more !)))) $
           land ! (from ! (stop !)) (init ! 10 refl (tt, tt)) $ move ! (2 ∷ 3 ∷ 4 ∷ 5 ∷ []) $
           assigns-last ! (bin ! (load ! (from ! (stop !)) (look ! 20 refl)) (lit ! tt) (record { fits = one-more })) (from ! (stop !)) (store ! 20 refl (tt, record { fits = one-more })) $ exec ! (𝓣 .C) (𝓣 .Λ) En more (anyQ (Turned i)) $
@@ -210,7 +211,7 @@ module _ {M : Type 1} (𝓤 : URA M) (H : Heap 𝓤) (A : Atoms 𝓤) (W : Given
           forget ! 6 refl $ forget ! 8 refl $ forget ! 10 refl $ next i less s true)
           (λ no. skips ! $ exec ! (𝓣 .C) (𝓣 .Λ) En more (anyQ (Turned i)) $
           rewrite ! 20 (λ (ks : List Link). ‵ (fat fullShare (tyInt w64) l₅ 0 (vint w64 (length ks)))) (kept-no labels ys (i .0) less (sym es ∙ no-is s no)) refl $
-          rewrite ! 4 (λ (ks : List Link). ‵ (OwnOut b o κ₂ γ (length zs) (written zs ks))) (kept-no labels ys (i .0) less (sym es ∙ no-is s no)) refl $ next i less s true)))
+          rewrite ! 4 (λ (ks : List Link). ‵ (OwnOut b o κ₂ γ (length zs) (fitted zs 0 ks))) (kept-no labels ys (i .0) less (sym es ∙ no-is s no)) refl $ next i less s true)))
         where
           less : i .0 < length ys
           less = ltb-true (i .0) (length ys) e
@@ -238,23 +239,19 @@ module _ {M : Type 1} (𝓤 : URA M) (H : Heap 𝓤) (A : Atoms 𝓤) (W : Given
         -- [what the links own; their token; what the labels own; theirs; what the room owns; its token; _12; ..; _0; ..]
         assigns ! (of-opd ! (load ! (from ! (fld ! refl (stop !))) (look-in ! 28 (sub ! 1 refl (whole !))))) (from ! (stop !)) (init ! 22 refl (tt, record { fits = room .0 })) $
         assigns ! (of-opd ! (lit ! tt)) (from ! (stop !)) (init ! 20 refl (tt, record { fits = lit< tt })) $ assigns ! (of-opd ! (lit ! tt)) (from ! (stop !)) (init ! 18 refl (tt, record { fits = lit< tt })) $
-        rewrite ! 4 (λ (ks : List Link). ‵ (OwnOut b o κ₂ γ (length zs) ks)) (written-none zs) refl $ rewrite ! 4 (λ (ks : List Link). ‵ (OwnOut b o κ₂ γ (length zs) (written zs ks))) (kept-none labels ys) refl $
+        rewrite ! 4 (λ (ks : List Link). ‵ (OwnOut b o κ₂ γ (length zs) ks)) (sym (fitted-nil zs 0)) refl $ rewrite ! 4 (λ (ks : List Link). ‵ (OwnOut b o κ₂ γ (length zs) (fitted zs 0 ks))) (kept-none labels ys) refl $
         rewrite ! 20 (λ (ks : List Link). ‵ (fat fullShare (tyInt w64) l₅ 0 (vint w64 (length ks)))) (kept-none labels ys) refl $
         looped l₀ l₁ l₂ l₃ l₄ l₅ l₆ l₇ l₈ l₉ l₁₀ l₁₁ l₁₂ (0, zero-le))))))))))))))
 
 pub keep-links-spec : {M : Type 1} → stated.statement M
-unfolding code.routine tablesOf
+unfolding code.routine
 keep-links-spec 𝓤 H 𝓜 𝓖 𝓡 =
-    let 𝓣 : Tables 𝓤 H = tablesOf 𝓤 H 𝓜 (tables 𝓤 H 𝓜 𝓡 code.env) in
-    let W : Given 𝓤 H (𝓖 .A) = givenOf 𝓤 H 𝓜 𝓖 in
-    entered 𝓤 H (tripleOf 𝓤 H (𝓖 .A) f.signature (f.spec 𝓤 H (𝓖 .A) (𝓜 .mem) (𝓡 .run)))
-    (tables 𝓤 H 𝓜 𝓡 code.env .C) (tables 𝓤 H 𝓜 𝓡 code.env .Λ) #keep-links code.function (code.unfolded 𝓤 H 𝓜 𝓡)
-    (walk-meets 𝓤 H (𝓖 .A) f.ended stayed W (goes-none-slice 𝓤 H (𝓖 .A) W 3 (0 ∷ []) tt (plain (λ _. R)) yes, (goes-none-ref 𝓤 H (𝓖 .A) W 3 (1 ∷ []) tt (plain (λ _. Labels)) yes, (goes-slice 𝓤 H (𝓖 .A) W 3 2 tt (plain (λ _. R)), tt)))
-    (f.clauses 𝓤 H (𝓖 .A) (𝓜 .mem) (𝓡 .run)) (WpFn 𝓤 H (𝓣 .C) (𝓣 .Λ) code.function) (WpFn-mono 𝓤 H (W .laws) 𝓣 code.function)
-    (walked 𝓤 H (𝓖 .A) f.ended stayed (f.clauses 𝓤 H (𝓖 .A) (𝓜 .mem) (𝓡 .run)) (WpFn 𝓤 H (𝓣 .C) (𝓣 .Λ) code.function)
-    (λ κs. (slice-vals, (ptr-vals, (slice-vals, tt)))) (λ κs. (shr-slice-tells (named 0) (κs .0) R, (shr-tells (named 1) (κs .1 .0) Labels, (mut-slice-tells (named 2) (κs .1 .1 .0) R, tt))))
-    (λ κs qs bounds a g are. via 𝓤 _ (fst∗ 𝓤 _ (emp 𝓤)) (walk 𝓤 H (𝓖 .A) W (𝓜 .mem) (𝓡 .run) (κs .0) (κs .1 .0) (κs .1 .1 .0) (qs .0) (qs .1 .0) (qs .1 .1 .0) (a .0) (a .1 .0)
+    meets 𝓤 H 𝓜 𝓖 𝓡 code.env f.ended stayed (f.clauses 𝓤 H (𝓖 .A) (𝓜 .mem) (𝓡 .run)) #keep-links code.function (code.unfolded 𝓤 H 𝓜 𝓡)
+    (λ W. (goes-none-slice 𝓤 H (𝓖 .A) W 3 (0 ∷ []) tt (plain (λ _. R)) yes, (goes-none-ref 𝓤 H (𝓖 .A) W 3 (1 ∷ []) tt (plain (λ _. Labels)) yes, (goes-slice 𝓤 H (𝓖 .A) W 3 2 tt (plain (λ _. R)), tt))))
+    (λ κs. (slice-vals, (ptr-vals, (slice-vals, tt))))
+    (λ κs. (shr-slice-tells (named 0) (κs .0) R, (shr-tells (named 1) (κs .1 .0) Labels, (mut-slice-tells (named 2) (κs .1 .1 .0) R, tt))))
+    (λ W 𝓣 known κs qs bounds a g are. via 𝓤 _ (fst∗ 𝓤 _ (emp 𝓤)) (walk 𝓤 H (𝓖 .A) W (𝓜 .mem) (𝓡 .run) (κs .0) (κs .1 .0) (κs .1 .1 .0) (qs .0) (qs .1 .0) (qs .1 .1 .0) (a .0) (a .1 .0)
     (a .1 .1 .0 .ptr .0) (a .1 .1 .0 .ptr .1) (a .1 .1 .0 .name) (a .1 .1 .0 .now) (are .0 .0 .1) (are .1 .1 .0 .0 .1) 𝓣
-    (cited 𝓤 H (LinkAt 𝓤 H (𝓖 .A) (𝓜 .mem) (𝓡 .run)) 𝓜 𝓡 code.env #link-at at-def.routine code.calls-links·record·link-at (at-thm.met 𝓤 H 𝓜 𝓖 𝓡))
-    (cited 𝓤 H (SameLabel 𝓤 H (𝓖 .A) (𝓜 .mem) (𝓡 .run)) 𝓜 𝓡 code.env #same-label same-def.routine code.calls-links·record·same-label (same-thm.met 𝓤 H 𝓜 𝓖 𝓡))
-    (cited 𝓤 H (StoreLink (a .1 .1 .0 .ptr .0) (a .1 .1 .0 .ptr .1) 𝓤 H (𝓖 .A) (𝓜 .mem) (𝓡 .run)) 𝓜 𝓡 code.env #store-link store-def.routine code.calls-links·record·store-link (store-thm.met 𝓤 H 𝓜 𝓖 𝓡))))))
+    (known #link-at at-def.routine code.calls-links·record·link-at (LinkAt 𝓤 H (𝓖 .A) (𝓜 .mem) (𝓡 .run)) (at-thm.met 𝓤 H 𝓜 𝓖 𝓡))
+    (known #same-label same-def.routine code.calls-links·record·same-label (SameLabel 𝓤 H (𝓖 .A) (𝓜 .mem) (𝓡 .run)) (same-thm.met 𝓤 H 𝓜 𝓖 𝓡))
+    (known #store-link store-def.routine code.calls-links·record·store-link (StoreLink (a .1 .1 .0 .ptr .0) (a .1 .1 .0 .ptr .1) 𝓤 H (𝓖 .A) (𝓜 .mem) (𝓡 .run)) (store-thm.met 𝓤 H 𝓜 𝓖 𝓡))))

@@ -32,7 +32,7 @@ loop-again c =
 returns : tie.Need-returns Inv-loop μ-loop
 returns c =
     let l = c .before .before .before in
-    sum-done _ _ (l .loop .i) (l .loop .sum) (l .loop .bad) _ (omega arith) (l .loop .inv .1) (c .before .if1 .taken) (c .wide .ensures)
+    sum-done _ _ (l .loop .i) (l .loop .sum) (l .loop .bad) _ (omega arith) (l .loop .inv .1) (c .before .if1 .taken) (c .as-number .ensures)
 
 returns-2 : tie.Need-returns-2 Inv-loop μ-loop
 returns-2 c =

@@ -1,7 +1,7 @@
 -- `input::begin` meets its contract. Assumes nothing.
 use mathlib.Core.Path.{sym}
 use borrow.Author.Needs.{needs}
-use Rattle.texts.proofs.WritesRows.{firstOf-refused, begun-refused, begun-after}
+use Rattle.texts.proofs.WritesRows.{firstOf-refused, surrounds-refused, surrounds-after}
 use Rattle.texts.proofs.input.begin.Statement.{statement}
 use Rattle.texts.proofs.input.begin.Tie as tie
 
@@ -11,11 +11,11 @@ begin-judged-requires c κs = c .before .before .before .before .before .pre (c 
 returns : tie.Need-returns
 returns c =
     let s = c .before .before .before .before .before in
-    begun-refused (s .args .n) (s .args .k) (s .args .count) (s .args .bytes .now) (s .args .text .now) _ (sym (firstOf-refused _ (c .before .judged .given .1)))
+    surrounds-refused (s .args .n) (s .args .k) (s .args .count) (s .args .bytes .now) (s .args .text .now) _ (sym (firstOf-refused _ (c .before .judged .given .1)))
 
 returns-2 : tie.Need-returns-2
 returns-2 c =
-    begun-after _ _ _ _ _ _ _ _ _ (c .before .before .before .before .enum-told .given .1) (c .before .before .begin-judged .ensures)
+    surrounds-after _ _ _ _ _ _ _ _ _ (c .before .before .before .before .enum-told .given .1) (c .before .before .begin-judged .ensures)
 
 pub begin-spec : {M : Type 1} → statement M
 begin-spec =

@@ -19,11 +19,10 @@ use prog.Routine.{Routine}
 use prog.Wp.{Heap, WpFn, Tables}
 use ghost.Atoms.{Atoms, sem}
 use contract.Monad.{Fun}
-use contract.Running.{givenOf, tables, tablesOf}
 use types.Kit.{Given, ‵, _⊛_, ⋆, _$_, _∵_, !, qed, by, move, drop, split, join, rewrite, fsplit, fjoin, suffices, frame, done}
 use types.Part.{whole, sub, look-in, agg}
 use types.Run.{look, store, init, forget, stop, hop, fld, from, load, addr, and-then, no-more, of-opd, assigns, land, returns, enter, alloc1, alloc0, params1, pass1, pass0, free1, free0}
-use sound.WpLaws.{fmOf, WpFn-mono}
+use sound.WpLaws.{fmOf}
 use denote.RattleType.{owns}
 use denote.Laws.{Is}
 use denote.Plain.{uint-vals, uint-tells, uint-makes}
@@ -36,12 +35,12 @@ use denote.Triple.Entry.{Vals, onEntry, Args}
 use denote.Triple.Statement.{Contract, Triple}
 use denote.Triple.Spec.{tripleOf}
 use denote.Triple.Clauses.{Lasts, lasts}
-use denote.Triple.Table.{entered, cited}
-use denote.Triple.Walked.{says, Stays, stay-none-slice, stay-none, stay-slice, walkOf, ends-at, walked, goes-none-slice, goes-none, goes-slice, walk-meets}
+use denote.Triple.Walked.{says, Stays, stay-none-slice, stay-none, stay-slice, walkOf, ends-at, goes-none-slice, goes-none, goes-slice}
 use denote.Exit.{yes}
 use Rattle.meaning.specs.declared.Link.{Link}
 use Rattle.meaning.specs.declared.Judged.{Judged}
 use Rattle.meaning.specs.Judge.{first as first-of}
+use Rattle.links.proofs.Meets.{meets}
 use Rattle.links.specs.Links.{tableRows}
 use Rattle.links.specs.Records.{firstOf}
 use Rattle.links.proofs.RecordsLink.{R, J, told, IsJudged, told-so, typed-judged, made-judged}
@@ -52,10 +51,10 @@ use Rattle.links.proofs.records.judge_records.Symbol as jud-def
 use Rattle.links.proofs.records.judge_records.Symbol.{name as #judge-records}
 use Rattle.links.proofs.records.judge_records.Met as jud-thm
 use Rattle.texts.specs.declared.Written.{Written}
-use Rattle.texts.specs.Steps.{laterRows, Begun, linksLeft}
-use Rattle.texts.proofs.WritesAnswer.{Wn, said, IsWritten, said-so, unit-so, typed-written, made-written}
+use Rattle.texts.specs.Steps.{laterRows, Surrounds, linksLeft}
+use Rattle.texts.proofs.AnswerRows.{Wn, written, unit-so, written-row}
 use Rattle.texts.proofs.WritesLinks.{linked, linked-long}
-use Rattle.texts.proofs.WritesInput.{judgedInput, counts, begun-long, left-fits, input-done}
+use Rattle.texts.proofs.WritesInput.{judgedInput, counts, surrounds-long, left-fits, input-done}
 use Rattle.texts.proofs.WritesLent.{OwnText, textRef, Twin, Asks, calls-lent}
 use Rattle.texts.proofs.input.begin as beg
 use Rattle.texts.proofs.input.begin.Symbol as beg-def
@@ -123,22 +122,22 @@ module _ {M : Type 1} (𝓤 : URA M) (H : Heap 𝓤) (A : Atoms 𝓤) (W : Given
 
   -- what was begun, and the room when the links are written too
   abbrev Began : List ℕ → Written → Type 0
-  Began ys r = Begun (judgedInput n k links bytes t) n k (length links) bytes t ys r
+  Began ys r = Surrounds (judgedInput n k links bytes t) n k (length links) bytes t ys r
 
   long : (ys : List ℕ) (r : Written) → Began ys r → length (linked ys links (linksLeft r (length links))) ≡ length t
   long ys r e =
       linked-long ys links (linksLeft r (length links)) (left-fits n k links bytes t ys r e .0) (left-fits n k links bytes t ys r e .1) (linksLeft r (length links)) (le-refl (linksLeft r (length links)))
-      ∙ begun-long n k links bytes t ys r e
+      ∙ surrounds-long n k links bytes t ys r e
 
-  exits : (r : Written) (ys : List ℕ) → IsWritten r → Began ys r
-      → ent 𝓤 (⋆ 𝓤 H A (‵ (OwnText b o κ₂ γ (length t) (linked ys links (linksLeft r (length links)))) ∷ ‵ (flft κ₂ q₂) ∷ ‵ (flft κ₀ q₀) ∷ ‵ (Own κ₀ x) ∷ ‵ (flft κ₁ q₁) ∷ ‵ OwnBytes ∷ [])) (Post (said r))
+  exits : (r : Written) (ys : List ℕ) → Is Wn r (written .lowered r ∷ []) → Began ys r
+      → ent 𝓤 (⋆ 𝓤 H A (‵ (OwnText b o κ₂ γ (length t) (linked ys links (linksLeft r (length links)))) ∷ ‵ (flft κ₂ q₂) ∷ ‵ (flft κ₀ q₀) ∷ ‵ (Own κ₀ x) ∷ ‵ (flft κ₁ q₁) ∷ ‵ OwnBytes ∷ [])) (Post (written .lowered r))
   exits r ys is e =
       qed W (‵ (OwnText b o κ₂ γ (length t) (linked ys links (linksLeft r (length links)))) ∷ ‵ (flft κ₂ q₂) ∷ ‵ (flft κ₀ q₀) ∷ ‵ (Own κ₀ x) ∷ ‵ (flft κ₁ q₁) ∷ ‵ OwnBytes ∷ []) ∵
-      suffices ! _ (ends-at 𝓤 H A f.ended stayed (f.clauses 𝓤 H A mem run) W bound (said r) r (tt, (tt, (tt, (tt, (linked ys links (linksLeft r (length links)), tt))))) (tt, (tt, (tt, (tt, (long ys r e, tt)))))) $
+      suffices ! _ (ends-at 𝓤 H A f.ended stayed (f.clauses 𝓤 H A mem run) W bound (written .lowered r) r (tt, (tt, (tt, (tt, (linked ys links (linksLeft r (length links)), tt))))) (tt, (tt, (tt, (tt, (long ys r e, tt)))))) $
       says ! (input-done n k links bytes t ys _ r e refl) $
       nothing ! $ move ! (2 ∷ 0 ∷ []) $ join ! $ move ! (4 ∷ 0 ∷ []) $ join ! $ move ! (2 ∷ 0 ∷ []) $ join ! $ frame ! $
       nothing ! $ move ! (1 ∷ 0 ∷ []) $ fjoin ! $ move ! (2 ∷ 0 ∷ []) $ fjoin ! $ move ! (1 ∷ 0 ∷ []) $ fjoin ! $ owned ! u64 (Is u64) (uint-makes 𝓤 H A W w64) k (vint w64 k ∷ []) (refl, gk) $ fjoin ! $
-      owned ! u64 (Is u64) (uint-makes 𝓤 H A W w64) n (vint w64 n ∷ []) (refl, gn) $ fjoin ! $ frame ! $ owned ! Wn (Is Wn) (made-written 𝓤 H A W) r _ is $ done !
+      owned ! u64 (Is u64) (uint-makes 𝓤 H A W w64) n (vint w64 n ∷ []) (refl, gn) $ fjoin ! $ frame ! $ owned ! Wn (Is Wn) (written-row 𝓤 H A W .made) r _ is $ done !
 
   -- the call of `judge_records`: what it asks
   goes-judge : ent 𝓤 (⋆ 𝓤 H A (‵ (Own κ₀ x) ∷ ‵ (flft κ₀ q₀) ∷ [])) (Judge 𝓤 H A mem run .pre (((κ₀, tt), (q₀, tt), tt, (n, (k, (x, tt))), (vint w64 n ∷ [], (vint w64 k ∷ [], (v ∷ [], tt)))), tt))
@@ -171,8 +170,8 @@ module _ {M : Type 1} (𝓤 : URA M) (H : Heap 𝓤) (A : Atoms 𝓤) (W : Given
         fsplit ! $ drop ! $ fsplit ! $ drop ! $ fsplit ! $ drop ! $ fsplit ! $ drop ! $ fsplit ! $ drop ! $ fsplit ! $ move ! (1 ∷ []) $ drop ! $ fsplit ! $ move ! (1 ∷ []) $ drop ! $ done !
 
     -- that the text was begun, said of what the rows come to
-    begun : (r : Written) (ys : List ℕ) → Begun (firstOf j (first-of (laterRows n (length links) bytes (length t)))) n k (length links) bytes t ys r → Began ys r
-    begun r ys e = subst (λ (i : Judged). Begun (firstOf i (first-of (laterRows n (length links) bytes (length t)))) n k (length links) bytes t ys r) ej e
+    begun : (r : Written) (ys : List ℕ) → Surrounds (firstOf j (first-of (laterRows n (length links) bytes (length t)))) n k (length links) bytes t ys r → Began ys r
+    begun r ys e = subst (λ (i : Judged). Surrounds (firstOf i (first-of (laterRows n (length links) bytes (length t)))) n k (length links) bytes t ys r) ej e
 
   -- the call of `put_links` on the first c links, the text space at ys: what it is passed, what it asks, and what it leaves of the text
   module _ (r : Written) (ys : List ℕ) (e : Began ys r) (fits : linksLeft r (length links) < 2 ^ 64) where
@@ -189,7 +188,7 @@ module _ {M : Type 1} (𝓤 : URA M) (H : Heap 𝓤) (A : Atoms 𝓤) (W : Given
         → ent 𝓤 (⋆ 𝓤 H A (‵ (Own κ₀ x) ∷ ‵ (flft κ₀ q₀) ∷ ‵ (OwnText b o (α ∷ []) δ (length ys) ys) ∷ ‵ (flft (α ∷ []) fullShare) ∷ []))
         (Asks 𝓤 H A (put.signature .params) (put.ended .kept) unit (put.clauses 𝓤 H A mem run) κ₀ q₀ α (to-links α δ) (vals-links α δ) tt)
     goes-links α δ =
-        qed W (‵ (Own κ₀ x) ∷ ‵ (flft κ₀ q₀) ∷ ‵ (OwnText b o (α ∷ []) δ (length ys) ys) ∷ ‵ (flft (α ∷ []) fullShare) ∷ []) ∵ rewrite ! 2 (λ (z : ℕ). ‵ (OwnText b o (α ∷ []) δ z ys)) (begun-long n k links bytes t ys r e) refl $
+        qed W (‵ (Own κ₀ x) ∷ ‵ (flft κ₀ q₀) ∷ ‵ (OwnText b o (α ∷ []) δ (length ys) ys) ∷ ‵ (flft (α ∷ []) fullShare) ∷ []) ∵ rewrite ! 2 (λ (z : ℕ). ‵ (OwnText b o (α ∷ []) δ z ys)) (surrounds-long n k links bytes t ys r e) refl $
         says ! (left-fits n k links bytes t ys r e) $ nothing ! $ move ! (4 ∷ 0 ∷ []) $ join ! $ move ! (2 ∷ 0 ∷ []) $ join ! $ frame ! $
         nothing ! $ move ! (2 ∷ 0 ∷ []) $ fjoin ! $ owned ! usize (Is usize) (uint-makes 𝓤 H A W w64) c (vint w64 c ∷ []) (refl, fits) $ fjoin ! $ move ! (1 ∷ 0 ∷ []) $ fjoin ! $ done !
 
@@ -219,17 +218,17 @@ module _ {M : Type 1} (𝓤 : URA M) (H : Heap 𝓤) (A : Atoms 𝓤) (W : Given
         assigns ! (addr ! (from ! (fld ! refl (hop ! (look-in ! 24 (sub ! 0 refl (whole !))) (stop !))))) (from ! (stop !)) (init ! 16 refl (tt, tt)) $
         assigns ! (agg ! (and-then ! (load ! (from ! (stop !)) (look ! 16 refl)) (and-then ! (load ! (from ! (fld ! refl (stop !))) (look-in ! 24 (sub ! 1 refl (whole !)))) (no-more !)))) (from ! (stop !)) (init ! 14 refl (tt, (tt, (record { fits = text-room .0 }, tt)))) $
         move ! (4 ∷ 5 ∷ 3 ∷ 2 ∷ []) $
-        calls-lent (beg.signature .params) (beg.ended .kept) Wn said said-so κ₁ κ₂ q₁ q₂ b o γ (length t) t (beg.clauses 𝓤 H A mem run) (to-begin j isj ej) (vals-begin j isj ej) (λ α δ. tt) ! (fmOf 𝓤 H (W .laws) 𝓣) known-begin refl text-room
+        calls-lent (beg.signature .params) (beg.ended .kept) Wn (written .lowered) (written .val-is) κ₁ κ₂ q₁ q₂ b o γ (length t) t (beg.clauses 𝓤 H A mem run) (to-begin j isj ej) (vals-begin j isj ej) (λ α δ. tt) ! (fmOf 𝓤 H (W .laws) 𝓣) known-begin refl text-room
         (ShrSlice (named 0) κ₁ u8) (shr-slice-copy 𝓤 H A W (named 0) κ₁ u8) y (u ∷ []) (goes-begin j isj ej)
-        (λ r ys. Begun (firstOf j (first-of (laterRows n (length links) bytes (length t)))) n k (length links) bytes t ys r) (λ α δ ws. ws .1 .1 .1 .1 .1 .0) (λ α δ r ws. id⊢ 𝓤 _) (ends-begin j isj ej)
-        (λ r ys e. begun-long n k links bytes t ys r (begun j isj ej r ys e))
+        (λ r ys. Surrounds (firstOf j (first-of (laterRows n (length links) bytes (length t)))) n k (length links) bytes t ys r) (λ α δ ws. ws .1 .1 .1 .1 .1 .0) (λ α δ r ws. id⊢ 𝓤 _) (ends-begin j isj ej)
+        (λ r ys e. surrounds-long n k links bytes t ys r (begun j isj ej r ys e))
         (λ α δ. and-then ! (load ! (from ! (stop !)) (look ! 21 refl)) (and-then ! (load ! (from ! (stop !)) (look ! 31 refl)) (and-then ! (load ! (from ! (stop !)) (look ! 29 refl)) (and-then ! (load ! (from ! (stop !)) (look ! 17 refl))
         (and-then ! (load ! (from ! (stop !)) (look ! 25 refl)) (and-then ! (load ! (from ! (stop !)) (look ! 13 refl)) (no-more !))))))) (λ r ys e isr.
         -- [what the text space owns; its token; the bytes' token; what the bytes own; what the links own; their token; _14; ..; _0; ..]
-        land ! (from ! (stop !)) (init ! 20 refl (typed-written 𝓤 H A W r isr)) $
+        land ! (from ! (stop !)) (init ! 20 refl (written-row 𝓤 H A W .typed r _ isr)) $
         assigns ! (of-opd ! (load ! (from ! (fld ! refl (stop !))) (look-in ! 28 (sub ! 1 refl (whole !))))) (from ! (stop !)) (init ! 10 refl (tt, record { fits = room .0 })) $
         calls-plain (lef.signature .params) (lef.ended .kept) usize (vint w64) (uint-tells w64) ! (fmOf 𝓤 H (W .laws) 𝓣) (lef.clauses 𝓤 H A mem run) known-left
-        (r, (length links, tt)) (said r ∷ [], (vint w64 (length links) ∷ [], tt)) tt (made-written 𝓤 H A W, (uint-makes 𝓤 H A W w64, tt)) (isr, ((refl, room .0), tt))
+        (r, (length links, tt)) (written .lowered r ∷ [], (vint w64 (length links) ∷ [], tt)) tt (written-row 𝓤 H A W .made, (uint-makes 𝓤 H A W w64, tt)) (isr, ((refl, room .0), tt))
         (id⊢ 𝓤 _) (λ m. m ≡ linksLeft r (length links)) (λ m ws. id⊢ 𝓤 _)
         (and-then ! (load ! (from ! (stop !)) (look ! 21 refl)) (and-then ! (load ! (from ! (stop !)) (look ! 11 refl)) (no-more !))) (λ m em fits.
         land ! (from ! (stop !)) (store ! 18 refl (tt, record { fits = fits .1 })) $ rewrite ! 18 (λ (z : ℕ). ‵ (fat fullShare (tyInt w64) l₈ 0 (vint w64 z))) em refl $
@@ -237,34 +236,29 @@ module _ {M : Type 1} (𝓤 : URA M) (H : Heap 𝓤) (A : Atoms 𝓤) (W : Given
         assigns ! (agg ! (and-then ! (load ! (from ! (stop !)) (look ! 8 refl)) (and-then ! (load ! (from ! (fld ! refl (stop !))) (look-in ! 24 (sub ! 1 refl (whole !)))) (no-more !)))) (from ! (stop !)) (init ! 6 refl (tt, (tt, (record { fits = text-room .0 }, tt)))) $
         move ! (0 ∷ 1 ∷ 5 ∷ 4 ∷ []) $ calls-lent (put.signature .params) (put.ended .kept) unit (λ _. vunit) unit-so κ₀ κ₂ q₀ q₂ b o γ (length t) ys (put.clauses 𝓤 H A mem run)
         (to-links r ys (begun j isj ej r ys e) (subst (λ (z : ℕ). z < 2 ^ 64) em (fits .1))) (vals-links r ys (begun j isj ej r ys e) (subst (λ (z : ℕ). z < 2 ^ 64) em (fits .1))) (λ α δ. tt) ! (fmOf 𝓤 H (W .laws) 𝓣) known-put
-        (begun-long n k links bytes t ys r (begun j isj ej r ys e)) text-room (ShrSlice (named 0) κ₀ R) (shr-slice-copy 𝓤 H A W (named 0) κ₀ R) x (v ∷ [])
+        (surrounds-long n k links bytes t ys r (begun j isj ej r ys e)) text-room (ShrSlice (named 0) κ₀ R) (shr-slice-copy 𝓤 H A W (named 0) κ₀ R) x (v ∷ [])
         (goes-links r ys (begun j isj ej r ys e) (subst (λ (z : ℕ). z < 2 ^ 64) em (fits .1)))
         (λ _ zs. zs ≡ linked ys links (linksLeft r (length links))) (λ α δ ws. ws .1 .1 .0) (λ α δ r ws. id⊢ 𝓤 _) (ends-links r ys (begun j isj ej r ys e) (subst (λ (z : ℕ). z < 2 ^ 64) em (fits .1)))
-        (λ _ zs g. ap length g ∙ long ys r (begun j isj ej r ys e) ∙ sym (begun-long n k links bytes t ys r (begun j isj ej r ys e)))
+        (λ _ zs g. ap length g ∙ long ys r (begun j isj ej r ys e) ∙ sym (surrounds-long n k links bytes t ys r (begun j isj ej r ys e)))
         (λ α δ. and-then ! (load ! (from ! (stop !)) (look ! 27 refl)) (and-then ! (load ! (from ! (stop !)) (look ! 17 refl)) (and-then ! (load ! (from ! (stop !)) (look ! 5 refl)) (no-more !))))
         (λ _ zs g _.
         -- [what the text space owns; its token; the links' token; what the links own; the bytes' token; what the bytes own; _14; ..; _0; ..]
         rewrite ! 0 (λ (z : List ℕ). ‵ (OwnText b o κ₂ γ (length t) z)) g refl $
         land ! (from ! (stop !)) (init ! 12 refl (tt, tt)) $
-        assigns ! (of-opd ! (load ! (from ! (stop !)) (look ! 20 refl))) (from ! (stop !)) (init ! 34 refl (typed-written 𝓤 H A W r isr)) $
+        assigns ! (of-opd ! (load ! (from ! (stop !)) (look ! 20 refl))) (from ! (stop !)) (init ! 34 refl (written-row 𝓤 H A W .typed r _ isr)) $
         returns ! (look ! 34 refl) $ forget ! 6 refl $ forget ! 8 refl $ forget ! 10 refl $ forget ! 12 refl $ forget ! 14 refl $ forget ! 16 refl $ forget ! 18 refl $ forget ! 20 refl $ forget ! 22 refl $ forget ! 24 refl $ forget ! 26 refl $ forget ! 28 refl $ forget ! 30 refl $ forget ! 32 refl $ forget ! 34 refl $
         move ! (34 ∷ 35 ∷ []) $ free1 ! $ move ! (32 ∷ 33 ∷ []) $ free1 ! $ move ! (30 ∷ 31 ∷ []) $ free1 ! $ move ! (28 ∷ 29 ∷ []) $ free1 ! $ move ! (26 ∷ 27 ∷ []) $ free1 ! $ move ! (24 ∷ 25 ∷ []) $ free1 ! $ move ! (22 ∷ 23 ∷ []) $ free1 ! $ move ! (20 ∷ 21 ∷ []) $ free1 ! $ move ! (18 ∷ 19 ∷ []) $ free1 ! $ move ! (16 ∷ 17 ∷ []) $ free1 ! $ move ! (14 ∷ 15 ∷ []) $ free1 ! $ move ! (12 ∷ 13 ∷ []) $ free1 ! $ move ! (10 ∷ 11 ∷ []) $ free1 ! $ move ! (8 ∷ 9 ∷ []) $ free1 ! $ move ! (6 ∷ 7 ∷ []) $ free1 ! $ free0 ! $ by ! (exits r ys isr (begun j isj ej r ys e)))))))))))))))))))))
 
 pub write-input-spec : {M : Type 1} → stated.statement M
-unfolding code.routine tablesOf
+unfolding code.routine
 write-input-spec 𝓤 H 𝓜 𝓖 𝓡 =
-    let 𝓣 : Tables 𝓤 H = tablesOf 𝓤 H 𝓜 (tables 𝓤 H 𝓜 𝓡 code.env) in
-    let W : Given 𝓤 H (𝓖 .A) = givenOf 𝓤 H 𝓜 𝓖 in
-    entered 𝓤 H (tripleOf 𝓤 H (𝓖 .A) f.signature (f.spec 𝓤 H (𝓖 .A) (𝓜 .mem) (𝓡 .run)))
-    (tables 𝓤 H 𝓜 𝓡 code.env .C) (tables 𝓤 H 𝓜 𝓡 code.env .Λ) #write-input code.function (code.unfolded 𝓤 H 𝓜 𝓡)
-    (walk-meets 𝓤 H (𝓖 .A) f.ended stayed W
-    (goes-none 𝓤 H (𝓖 .A) W 3 (λ _. u64) yes (λ κs x f. refl), (goes-none 𝓤 H (𝓖 .A) W 3 (λ _. u64) yes (λ κs x f. refl), (goes-none-slice 𝓤 H (𝓖 .A) W 3 (0 ∷ []) tt (plain (λ _. R)) yes, (goes-none-slice 𝓤 H (𝓖 .A) W 3 (1 ∷ []) tt (plain (λ _. u8)) yes, (goes-slice 𝓤 H (𝓖 .A) W 3 2 tt (plain (λ _. u8)), tt)))))
-    (f.clauses 𝓤 H (𝓖 .A) (𝓜 .mem) (𝓡 .run)) (WpFn 𝓤 H (𝓣 .C) (𝓣 .Λ) code.function) (WpFn-mono 𝓤 H (W .laws) 𝓣 code.function)
-    (walked 𝓤 H (𝓖 .A) f.ended stayed (f.clauses 𝓤 H (𝓖 .A) (𝓜 .mem) (𝓡 .run)) (WpFn 𝓤 H (𝓣 .C) (𝓣 .Λ) code.function)
-    (λ κs. (uint-vals w64, (uint-vals w64, (slice-vals, (slice-vals, (slice-vals, tt)))))) (λ κs. (uint-tells w64, (uint-tells w64, (shr-slice-tells (named 0) (κs .0) R, (shr-slice-tells (named 1) (κs .1 .0) u8, (mut-slice-tells (named 2) (κs .1 .1 .0) u8, tt))))))
-    (λ κs qs bounds a g are. via 𝓤 _ (fst∗ 𝓤 _ (emp 𝓤)) (walk 𝓤 H (𝓖 .A) W (𝓜 .mem) (𝓡 .run) (κs .0) (κs .1 .0) (κs .1 .1 .0) (qs .0) (qs .1 .0) (qs .1 .1 .0) (a .0) (a .1 .0) (a .1 .1 .0) (a .1 .1 .1 .0)
+    meets 𝓤 H 𝓜 𝓖 𝓡 code.env f.ended stayed (f.clauses 𝓤 H (𝓖 .A) (𝓜 .mem) (𝓡 .run)) #write-input code.function (code.unfolded 𝓤 H 𝓜 𝓡)
+    (λ W. (goes-none 𝓤 H (𝓖 .A) W 3 (λ _. u64) yes (λ κs x f. refl), (goes-none 𝓤 H (𝓖 .A) W 3 (λ _. u64) yes (λ κs x f. refl), (goes-none-slice 𝓤 H (𝓖 .A) W 3 (0 ∷ []) tt (plain (λ _. R)) yes, (goes-none-slice 𝓤 H (𝓖 .A) W 3 (1 ∷ []) tt (plain (λ _. u8)) yes, (goes-slice 𝓤 H (𝓖 .A) W 3 2 tt (plain (λ _. u8)), tt))))))
+    (λ κs. (uint-vals w64, (uint-vals w64, (slice-vals, (slice-vals, (slice-vals, tt))))))
+    (λ κs. (uint-tells w64, (uint-tells w64, (shr-slice-tells (named 0) (κs .0) R, (shr-slice-tells (named 1) (κs .1 .0) u8, (mut-slice-tells (named 2) (κs .1 .1 .0) u8, tt))))))
+    (λ W 𝓣 known κs qs bounds a g are. via 𝓤 _ (fst∗ 𝓤 _ (emp 𝓤)) (walk 𝓤 H (𝓖 .A) W (𝓜 .mem) (𝓡 .run) (κs .0) (κs .1 .0) (κs .1 .1 .0) (qs .0) (qs .1 .0) (qs .1 .1 .0) (a .0) (a .1 .0) (a .1 .1 .0) (a .1 .1 .1 .0)
     (a .1 .1 .1 .1 .0 .ptr .0) (a .1 .1 .1 .1 .0 .ptr .1) (a .1 .1 .1 .1 .0 .name) (a .1 .1 .1 .1 .0 .now) (are .0 .1) (are .1 .0 .1) (are .1 .1 .0 .0 .1) (are .1 .1 .1 .0 .0 .1) (are .1 .1 .1 .1 .0 .0 .1) 𝓣
-    (cited 𝓤 H (Judge 𝓤 H (𝓖 .A) (𝓜 .mem) (𝓡 .run)) 𝓜 𝓡 code.env #judge-records jud-def.routine code.calls-links·records·judge-records (jud-thm.met 𝓤 H 𝓜 𝓖 𝓡))
-    (cited 𝓤 H (Begin 𝓤 H (𝓖 .A) (𝓜 .mem) (𝓡 .run)) 𝓜 𝓡 code.env #begin beg-def.routine code.calls-texts·input·begin (beg-thm.met 𝓤 H 𝓜 𝓖 𝓡))
-    (cited 𝓤 H (LinksLeft 𝓤 H (𝓖 .A) (𝓜 .mem) (𝓡 .run)) 𝓜 𝓡 code.env #links-left lef-def.routine code.calls-texts·input·links-left (lef-thm.met 𝓤 H 𝓜 𝓖 𝓡))
-    (cited 𝓤 H (PutLinks 𝓤 H (𝓖 .A) (𝓜 .mem) (𝓡 .run)) 𝓜 𝓡 code.env #put-links put-def.routine code.calls-texts·input·put-links (put-thm.met 𝓤 H 𝓜 𝓖 𝓡))))))
+    (known #judge-records jud-def.routine code.calls-links·records·judge-records (Judge 𝓤 H (𝓖 .A) (𝓜 .mem) (𝓡 .run)) (jud-thm.met 𝓤 H 𝓜 𝓖 𝓡))
+    (known #begin beg-def.routine code.calls-texts·input·begin (Begin 𝓤 H (𝓖 .A) (𝓜 .mem) (𝓡 .run)) (beg-thm.met 𝓤 H 𝓜 𝓖 𝓡))
+    (known #links-left lef-def.routine code.calls-texts·input·links-left (LinksLeft 𝓤 H (𝓖 .A) (𝓜 .mem) (𝓡 .run)) (lef-thm.met 𝓤 H 𝓜 𝓖 𝓡))
+    (known #put-links put-def.routine code.calls-texts·input·put-links (PutLinks 𝓤 H (𝓖 .A) (𝓜 .mem) (𝓡 .run)) (put-thm.met 𝓤 H 𝓜 𝓖 𝓡))))

@@ -8,13 +8,13 @@ use Rattle.meaning.specs.Judge.{first}
 use Rattle.frames.specs.declared.stage.Stage.the-variants.{Opening}
 use Rattle.texts.specs.Lines.{linesOf, lineRows}
 use Rattle.texts.specs.Reader.{read}
-use Rattle.texts.specs.Judging.{Small, readFrom}
+use Rattle.texts.specs.Judging.{Bounded, readFrom}
 use Rattle.texts.proofs.Advances.{read-start, read-refused, read-open, read-end, ready}
 use Rattle.texts.proofs.judge.judge_lines.Statement.{statement}
 use Rattle.texts.proofs.judge.judge_lines.Tie as tie
 
 abbrev Inv-loop : tie.InvT-loop
-Inv-loop text s₀ s = Small text s × (read (first (lineRows Opening 0 (linesOf text))) (linesOf text) ≡ readFrom s (linesOf (drop (s .at) text)))
+Inv-loop text s₀ s = Bounded text s × (read (first (lineRows Opening 0 (linesOf text))) (linesOf text) ≡ readFrom s (linesOf (drop (s .at) text)))
 
 abbrev μ-loop : tie.MeasureT-loop
 μ-loop text s₀ s = length text - s .at

@@ -6,11 +6,11 @@ use native.Mathlib.Omega.{arith}
 use borrow.Author.Needs.{needs}
 use lib.ListN.{length}
 use Rattle.cutting.specs.Record.{entrySize}
-use Rattle.frames.specs.Frame.{line}
+use Rattle.frames.specs.Frame.{line, lineSize}
 use Rattle.texts.specs.Kinds.{cutLines}
-use Rattle.frames.specs.Placing.{over}
+use Rattle.meaning.specs.Room.{over}
 use Rattle.frames.proofs.Places.{puts-fit}
-use Rattle.frames.proofs.Writes.{over-nil}
+use Rattle.meaning.proofs.Room.{over-nil}
 use Rattle.texts.proofs.WritesLines.{part, length-cut, next-cut}
 use Rattle.texts.proofs.kinds.each_cut.Statement.{statement}
 use Rattle.texts.proofs.kinds.each_cut.Tie as tie
@@ -20,7 +20,7 @@ Inv-loop room₀ at bytes cuts next₀ i₀ room next i =
     (cuts ≡ length bytes / entrySize)
     × (i ≤ cuts)
     × (length room ≡ length room₀)
-    × (next ≡ at + 47 * i)
+    × (next ≡ at + lineSize 3 * i)
     × (room ≡ over room₀ at (cutLines i bytes))
 
 abbrev μ-loop : tie.MeasureT-loop

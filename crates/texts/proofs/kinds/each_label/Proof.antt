@@ -7,9 +7,10 @@ use borrow.Author.Needs.{needs}
 use lib.ListN.{length}
 use Rattle.weighing.specs.Side.{heapOf}
 use Rattle.texts.specs.Kinds.{labelLine, labelLines}
-use Rattle.frames.specs.Placing.{over}
+use Rattle.meaning.specs.Room.{over}
 use Rattle.frames.proofs.Places.{puts-fit}
-use Rattle.frames.proofs.Writes.{over-nil}
+use Rattle.meaning.proofs.Room.{over-nil}
+use Rattle.frames.specs.Frame.{lineSize}
 use Rattle.texts.proofs.WritesLines.{length-label, next-label}
 use Rattle.texts.proofs.kinds.each_label.Statement.{statement}
 use Rattle.texts.proofs.kinds.each_label.Tie as tie
@@ -18,7 +19,7 @@ abbrev Inv-loop : tie.InvT-loop
 Inv-loop room₀ at n names next₀ bone₀ room next bone =
     (bone ≤ n)
     × (length room ≡ length room₀)
-    × (next ≡ at + 9 * bone)
+    × (next ≡ at + lineSize 4 * bone)
     × (room ≡ over room₀ at (labelLines bone (heapOf names)))
 
 abbrev μ-loop : tie.MeasureT-loop

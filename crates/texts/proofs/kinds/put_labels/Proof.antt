@@ -5,7 +5,7 @@ use native.Mathlib.Omega.{arith}
 use borrow.Author.Needs.{needs}
 use Rattle.weighing.specs.Side.{heapOf}
 use Rattle.texts.specs.Kinds.{labelLines}
-use Rattle.frames.specs.Placing.{over}
+use Rattle.meaning.specs.Room.{over}
 use Rattle.frames.proofs.Places.{puts-short, puts-whole}
 use Rattle.texts.proofs.WritesLines.{length-labels}
 use Rattle.texts.proofs.kinds.put_labels.Statement.{statement}

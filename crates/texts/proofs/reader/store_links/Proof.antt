@@ -8,7 +8,7 @@ use native.Mathlib.Nat.{lt-of-le-of-lt}
 use native.Mathlib.Numerals.{add-one-le, add-one-dec}
 use mathlib.Core.WellFounded.{WellFounded, InvImage·wf}
 use mathlib.Core.Bool.{Bool, true, false}
-use mathlib.Core.List.{List, [], _∷_, _++_}
+use mathlib.Core.List.{List, [], _∷_}
 use lib.Dec.{ltb, lit<}
 use lib.ListN.{length, getD, set, take, drop}
 use lib.WfN.{Nat·lt-wfRel}
@@ -24,11 +24,10 @@ use prog.Routine.{Routine}
 use prog.Wp.{Heap, Out, Env, Wp, WpFn, Tables, afterSeq, afterBlock, afterTurn, atReturn}
 use ghost.Atoms.{Atoms}
 use contract.Monad.{Fun}
-use contract.Running.{givenOf, tables, tablesOf}
 use types.Kit.{Given, Item, ‵, _⊛_, ⋆, runs, anyQ, atRet, Sq, _$_, _∵_, !, qed, by, move, drop as leave, split, join, rewrite, fsplit, fjoin, feqI, suffices, frame, done}
 use types.Part.{whole, sub, look-in, agg}
 use types.Run.{look, store, init, forget, stop, hop, fld, from, load, lit, unit-lit, addr, and-then, no-more, of-opd, bin, assigns, assigns-last, first, blocks, stays, leaves-loop, land, returns, enter, alloc1, alloc0, params1, pass1, pass0, free1, free0, exec, Below, again, loops}
-use sound.WpLaws.{fmOf, WpFn-mono}
+use sound.WpLaws.{fmOf}
 use denote.RattleType.{owns}
 use denote.Laws.{Is}
 use denote.Memory.{pointee}
@@ -41,10 +40,11 @@ use denote.Steps.{owned, nothing}
 use denote.Triple.Entry.{Vals, onEntry}
 use denote.Triple.Statement.{Contract, Triple}
 use denote.Triple.Spec.{tripleOf}
-use denote.Triple.Table.{entered, cited}
-use denote.Triple.Walked.{says, needs, Stays, stay-none-slice, stay-none, stay-slice, walkOf, ends-at, walked, goes-none-slice, goes-none, goes-slice, walk-meets}
+use denote.Triple.Walked.{says, needs, Stays, stay-none-slice, stay-none, stay-slice, walkOf, ends-at, goes-none-slice, goes-none, goes-slice}
 use denote.Exit.{yes}
 use Rattle.meaning.specs.declared.Link.{Link}
+use Rattle.meaning.specs.Room.{over}
+use Rattle.links.proofs.Meets.{meets}
 use Rattle.links.specs.Records.{noLink}
 use Rattle.links.proofs.RecordsLink.{R, link, val, tells, typed}
 use Rattle.links.proofs.RecordsCalls.{calls-over}
@@ -114,7 +114,7 @@ module _ {M : Type 1} (𝓤 : URA M) (H : Heap 𝓤) (A : Atoms 𝓤) (W : Given
   abbrev Refs : List Link → List (Item 𝓤) → List (Item 𝓤)
   Refs zs′ Γ = ‵ OwnText ∷ ‵ (flft κ₀ q₀) ∷ ‵ (OwnOut b o κ₁ γ (length zs) zs′) ∷ ‵ (flft κ₁ q₁) ∷ Γ
 
-  exits : (zs′ : List Link) → zs′ ≡ take count (linksIn (linesOf text)) ++ drop count zs → length zs′ ≡ length zs → ent 𝓤 (⋆ 𝓤 H A (Refs zs′ [])) (Post vunit)
+  exits : (zs′ : List Link) → zs′ ≡ over zs 0 (take count (linksIn (linesOf text))) → length zs′ ≡ length zs → ent 𝓤 (⋆ 𝓤 H A (Refs zs′ [])) (Post vunit)
   exits zs′ e n =
       qed W (Refs zs′ []) ∵
       suffices ! _ (ends-at 𝓤 H A f.ended stayed (f.clauses 𝓤 H A mem run) W bound vunit tt (tt, (zs′, (tt, tt))) (tt, (n, (tt, tt)))) $ says ! e $
@@ -208,18 +208,14 @@ module _ {M : Type 1} (𝓤 : URA M) (H : Heap 𝓤) (A : Atoms 𝓤) (W : Given
         looped l₀ l₁ l₂ l₃ l₄ l₅ l₆ l₇ l₈ l₉ l₁₀ (0, 0, zs, zero-le, lit< tt, links-first text zs count ok))))))))))))
 
 pub store-links-spec : {M : Type 1} → stated.statement M
-unfolding code.routine tablesOf
+unfolding code.routine
 store-links-spec 𝓤 H 𝓜 𝓖 𝓡 =
-    let 𝓣 : Tables 𝓤 H = tablesOf 𝓤 H 𝓜 (tables 𝓤 H 𝓜 𝓡 code.env) in
-    let W : Given 𝓤 H (𝓖 .A) = givenOf 𝓤 H 𝓜 𝓖 in
-    entered 𝓤 H (tripleOf 𝓤 H (𝓖 .A) f.signature (f.spec 𝓤 H (𝓖 .A) (𝓜 .mem) (𝓡 .run)))
-    (tables 𝓤 H 𝓜 𝓡 code.env .C) (tables 𝓤 H 𝓜 𝓡 code.env .Λ) #store-links code.function (code.unfolded 𝓤 H 𝓜 𝓡)
-    (walk-meets 𝓤 H (𝓖 .A) f.ended stayed W (goes-none-slice 𝓤 H (𝓖 .A) W 2 (0 ∷ []) tt (plain (λ _. u8)) yes, (goes-slice 𝓤 H (𝓖 .A) W 2 1 tt (plain (λ _. R)), (goes-none 𝓤 H (𝓖 .A) W 2 (λ _. usize) yes (λ κs x f. refl), tt)))
-    (f.clauses 𝓤 H (𝓖 .A) (𝓜 .mem) (𝓡 .run)) (WpFn 𝓤 H (𝓣 .C) (𝓣 .Λ) code.function) (WpFn-mono 𝓤 H (W .laws) 𝓣 code.function)
-    (walked 𝓤 H (𝓖 .A) f.ended stayed (f.clauses 𝓤 H (𝓖 .A) (𝓜 .mem) (𝓡 .run)) (WpFn 𝓤 H (𝓣 .C) (𝓣 .Λ) code.function)
-    (λ κs. (slice-vals, (slice-vals, (uint-vals w64, tt)))) (λ κs. (shr-slice-tells (named 0) (κs .0) u8, (mut-slice-tells (named 1) (κs .1 .0) R, (uint-tells w64, tt))))
-    (λ κs qs bounds a g are. needs 𝓤 _ _ (λ asked. walk 𝓤 H (𝓖 .A) W (𝓜 .mem) (𝓡 .run) (κs .0) (κs .1 .0) (qs .0) (qs .1 .0) (a .0) (a .1 .0 .ptr .0) (a .1 .0 .ptr .1) (a .1 .0 .name) (a .1 .0 .now) (a .1 .1 .0)
+    meets 𝓤 H 𝓜 𝓖 𝓡 code.env f.ended stayed (f.clauses 𝓤 H (𝓖 .A) (𝓜 .mem) (𝓡 .run)) #store-links code.function (code.unfolded 𝓤 H 𝓜 𝓡)
+    (λ W. (goes-none-slice 𝓤 H (𝓖 .A) W 2 (0 ∷ []) tt (plain (λ _. u8)) yes, (goes-slice 𝓤 H (𝓖 .A) W 2 1 tt (plain (λ _. R)), (goes-none 𝓤 H (𝓖 .A) W 2 (λ _. usize) yes (λ κs x f. refl), tt))))
+    (λ κs. (slice-vals, (slice-vals, (uint-vals w64, tt))))
+    (λ κs. (shr-slice-tells (named 0) (κs .0) u8, (mut-slice-tells (named 1) (κs .1 .0) R, (uint-tells w64, tt))))
+    (λ W 𝓣 known κs qs bounds a g are. needs 𝓤 _ _ (λ asked. walk 𝓤 H (𝓖 .A) W (𝓜 .mem) (𝓡 .run) (κs .0) (κs .1 .0) (qs .0) (qs .1 .0) (a .0) (a .1 .0 .ptr .0) (a .1 .0 .ptr .1) (a .1 .0 .name) (a .1 .0 .now) (a .1 .1 .0)
     (are .0 .0 .1) (are .1 .0 .0 .1) (are .1 .1 .0 .1) asked 𝓣
-    (cited 𝓤 H (LinkLine 𝓤 H (𝓖 .A) (𝓜 .mem) (𝓡 .run)) 𝓜 𝓡 code.env #link-line line-def.routine code.calls-texts·store·link-line (line-thm.met 𝓤 H 𝓜 𝓖 𝓡))
-    (cited 𝓤 H (LinkBehind 𝓤 H (𝓖 .A) (𝓜 .mem) (𝓡 .run)) 𝓜 𝓡 code.env #link-past past-def.routine code.calls-texts·store·link-past (past-thm.met 𝓤 H 𝓜 𝓖 𝓡))
-    (cited 𝓤 H (StoreLink (a .1 .0 .ptr .0) (a .1 .0 .ptr .1) 𝓤 H (𝓖 .A) (𝓜 .mem) (𝓡 .run)) 𝓜 𝓡 code.env #store-link store-def.routine code.calls-links·record·store-link (store-thm.met 𝓤 H 𝓜 𝓖 𝓡))))))
+    (known #link-line line-def.routine code.calls-texts·store·link-line (LinkLine 𝓤 H (𝓖 .A) (𝓜 .mem) (𝓡 .run)) (line-thm.met 𝓤 H 𝓜 𝓖 𝓡))
+    (known #link-past past-def.routine code.calls-texts·store·link-past (LinkBehind 𝓤 H (𝓖 .A) (𝓜 .mem) (𝓡 .run)) (past-thm.met 𝓤 H 𝓜 𝓖 𝓡))
+    (known #store-link store-def.routine code.calls-links·record·store-link (StoreLink (a .1 .0 .ptr .0) (a .1 .0 .ptr .1) 𝓤 H (𝓖 .A) (𝓜 .mem) (𝓡 .run)) (store-thm.met 𝓤 H 𝓜 𝓖 𝓡))))

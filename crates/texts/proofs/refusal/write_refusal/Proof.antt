@@ -7,6 +7,7 @@ use lib.ListN.{length}
 use Rattle.texts.specs.Kinds.{refusalLine}
 use Rattle.texts.proofs.WritesLines.{length-refusal}
 use Rattle.frames.proofs.Places.{puts-fit}
+use Rattle.frames.specs.Frame.{lineSize}
 use Rattle.texts.proofs.Fronts.{writes-short, writes-whole}
 use Rattle.texts.proofs.refusal.write_refusal.Statement.{statement}
 use Rattle.texts.proofs.refusal.write_refusal.Tie as tie
@@ -24,7 +25,7 @@ returns-2 c =
     let long = length-refusal (a .number) (a .place) in
     let fits : length (refusalLine (a .number) (a .place)) ≤ length (a .text .now) = omega (arith, c .before .before .before .before .if1 .left) in
     let put = puts-fit (a .text .now) 0 (refusalLine (a .number) (a .place)) _ _ (omega arith) (call .ensures) in
-    writes-whole (refusalLine (a .number) (a .place)) (a .text .now) (call .last .0) 11 fits (sym long) (put .1)
+    writes-whole (refusalLine (a .number) (a .place)) (a .text .now) (call .last .0) (lineSize 7) fits (sym long) (put .1)
 
 pub write-refusal-spec : {M : Type 1} → statement M
 write-refusal-spec =

@@ -18,12 +18,11 @@ use prog.Routine.{Routine}
 use prog.Wp.{Heap, WpFn, Tables}
 use ghost.Atoms.{Atoms}
 use contract.Monad.{Fun}
-use contract.Running.{givenOf, tables, tablesOf}
 use types.Kit.{Given, ‵, raw, _⊛_, ⋆, some, later, _$_, _∵_, !, qed, by, move, drop, group, use1, use3, split, join, fsplit, fjoin, feqL, suffices, frame, pick, await, done}
 use types.Part.{whole, sub, look-in, agg, rep}
 use types.Run.{look, init, forget, stop, hop, fld, from, load, lit, addr, and-then, no-more, assigns, land, returns, enter, alloc1, alloc0, params1, pass1, pass0, free1, free0}
 use types.Tokens.{lft-new, lft-end, lent-back}
-use sound.WpLaws.{fmOf, WpFn-mono}
+use sound.WpLaws.{fmOf}
 use denote.RattleType.{RattleType, owns}
 use denote.Laws.{Is, shows}
 use denote.Memory.{partAt}
@@ -38,12 +37,12 @@ use denote.Steps.{owned, nothing, peeks}
 use denote.Triple.Entry.{Vals, onEntry}
 use denote.Triple.Statement.{Contract, Triple}
 use denote.Triple.Spec.{tripleOf}
-use denote.Triple.Table.{entered, cited}
-use denote.Triple.Walked.{says, Stays, stay-none-slice, stay-none, gave-slice, walkOf, ends-at, walked, goes-none-slice, goes-none, goes-gave-slice, walk-meets}
+use denote.Triple.Walked.{says, Stays, stay-none-slice, stay-none, gave-slice, walkOf, ends-at, goes-none-slice, goes-none, goes-gave-slice}
 use denote.Exit.{yes}
 use Rattle.meaning.specs.declared.Link.{Link}
 use Rattle.meaning.specs.declared.Judged.the-variants.{Accepted}
 use Rattle.meaning.specs.Judge.{refuse, first as first-of}
+use Rattle.links.proofs.Meets.{meets}
 use Rattle.links.specs.Records.{firstOf}
 use Rattle.links.proofs.RecordsLink.{R}
 use Rattle.links.proofs.RecordsCalls.{calls-to}
@@ -57,10 +56,9 @@ use Rattle.cutting.proofs.checking_records.Symbol.{name as #checking-records}
 use Rattle.cutting.proofs.checking_records.Met as chk-thm
 use Rattle.texts.specs.declared.Written.{Written}
 use Rattle.texts.specs.Writing.{Writes}
-use Rattle.texts.proofs.WritesAnswer.{Wn, typed-held}
+use Rattle.texts.proofs.AnswerRows.{An, Wn, answer-row, written-row}
 use Rattle.texts.specs.Writers.{resultText, resultRows}
 use Rattle.texts.specs.ResultSteps.{Named, judgedOf}
-use Rattle.texts.proofs.AnswerRow.{An, typed-answer, made-answer}
 use Rattle.texts.proofs.WritesResult.{checked-named, checked-result}
 use Rattle.texts.proofs.result.result_after as aft
 use Rattle.texts.proofs.result.result_after.Symbol as aft-def
@@ -168,7 +166,7 @@ module _ {M : Type 1} (𝓤 : URA M) (H : Heap 𝓤) (A : Atoms 𝓤) (W : Given
         qed W (‵ OwnRecord ∷ ‵ (flft κ₁ q₁) ∷ ‵ OwnNames ∷ ‵ (flft (β ∷ []) fullShare) ∷ ‵ OwnText ∷ ‵ (flft κ₂ q₂) ∷ []) ∵ says ! asked $
         nothing ! $ move ! (6 ∷ 0 ∷ []) $ join ! $ move ! (4 ∷ 0 ∷ []) $ join ! $ move ! (2 ∷ 0 ∷ []) $ join ! $ frame ! $
         nothing ! $ move ! (3 ∷ 0 ∷ []) $ fjoin ! $ move ! (2 ∷ 0 ∷ []) $ fjoin ! $ move ! (1 ∷ 0 ∷ []) $ fjoin ! $ owned ! u64 (Is u64) (uint-makes 𝓤 H A W w64) k (vint w64 k ∷ []) (refl, gk) $ fjoin ! $
-        owned ! u64 (Is u64) (uint-makes 𝓤 H A W w64) n (vint w64 n ∷ []) (refl, gn) $ fjoin ! $ owned ! An (Is An) (made-answer 𝓤 H A W) g (v ∷ []) is $ fjoin ! $ done !
+        owned ! u64 (Is u64) (uint-makes 𝓤 H A W w64) n (vint w64 n ∷ []) (refl, gn) $ fjoin ! $ owned ! An (Is An) (answer-row 𝓤 H A W .made) g (v ∷ []) is $ fjoin ! $ done !
 
   module _ (𝓣 : Tables 𝓤 H) (known-check : Triple 𝓤 (𝓣 .C #checking-records) (Check 𝓤 H A mem run)) (known-after : Triple 𝓤 (𝓣 .C #result-after) (After 𝓤 H A mem run)) where
     walk : ent 𝓤 (onEntry 𝓤 H A f.signature (κ₀, (κ₁, (κ₂, tt))) (q₀, (q₁, (q₂, tt))) (bound .0 .3) at)
@@ -205,7 +203,7 @@ module _ {M : Type 1} (𝓤 : URA M) (H : Heap 𝓤) (A : Atoms 𝓤) (W : Given
         -- [the last names; α is over; the tokens of record and links; what the record owns; what the links own; the lender's part; what the text space owns; its token; _12; ..]
         move ! (1 ∷ 6 ∷ 0 ∷ []) $ use3 W (later (‵ (partAt Names fullShare (ws .1 .1 .1 .1 .0) l₆ 0))) (mut-back u8 128 𝓤 H A W (α ∷ []) γ (ws .1 .1 .1 .1 .0) l₆) $ await ! tt $
         -- [the names; the tokens of record and links; what the record owns; what the links own; what the text space owns; its token; _12; ..]
-        land ! (from ! (stop !)) (init ! 17 refl (typed-answer 𝓤 H A W g v is)) $ assigns ! (addr ! (from ! (stop !))) (from ! (stop !)) (init ! 11 refl (tt, tt)) $
+        land ! (from ! (stop !)) (init ! 17 refl (answer-row 𝓤 H A W .typed g v is)) $ assigns ! (addr ! (from ! (stop !))) (from ! (stop !)) (init ! 11 refl (tt, tt)) $
         assigns ! (addr ! (from ! (fld ! refl (hop ! (look-in ! 20 (sub ! 0 refl (whole !))) (stop !))))) (from ! (stop !)) (init ! 9 refl (tt, tt)) $
         assigns ! (agg ! (and-then ! (load ! (from ! (stop !)) (look ! 9 refl)) (and-then ! (load ! (from ! (fld ! refl (stop !))) (look-in ! 20 (sub ! 1 refl (whole !)))) (no-more !)))) (from ! (stop !)) (init ! 7 refl (tt, (tt, (record { fits = room-z .0 }, tt)))) $
         -- the names are lent, to be read
@@ -225,7 +223,7 @@ module _ {M : Type 1} (𝓤 : URA M) (H : Heap 𝓤) (A : Atoms 𝓤) (W : Given
         move ! (1 ∷ 6 ∷ []) $ lent-back ! tt $ use1 W (‵ (froom (localTy u8 128) l₆ 0)) (local-room u8 128 𝓤 H A W (uint-vals w8) (uint-tells w8) (ws .1 .1 .1 .1 .0) l₆) $
         move ! (4 ∷ []) $ fsplit ! $ drop ! $ fsplit ! $ drop ! $ fsplit ! $ drop ! $ fsplit ! $ drop ! $ fsplit ! $ drop ! $ fsplit ! $ fsplit ! $ move ! (1 ∷ []) $ feqL ! (λ len₂. move ! (1 ∷ []) $ drop ! $
         -- [the last text; room for _6; the tokens of text and record; the answer; what the record owns; the links' token; what they own; _12; ..; _0; ..]
-        land ! (from ! (stop !)) (init ! 31 refl (typed-held 𝓤 H A W r u isr)) $
+        land ! (from ! (stop !)) (init ! 31 refl (written-row 𝓤 H A W .typed r u isr)) $
         returns ! (look ! 31 refl) $ forget ! 8 refl $ forget ! 10 refl $ forget ! 12 refl $ forget ! 14 refl $ forget ! 16 refl $ forget ! 18 refl $ forget ! 21 refl $ forget ! 23 refl $ forget ! 25 refl $ forget ! 27 refl $ forget ! 29 refl $ forget ! 31 refl $
         move ! (31 ∷ 32 ∷ []) $ free1 ! $ move ! (29 ∷ 30 ∷ []) $ free1 ! $ move ! (27 ∷ 28 ∷ []) $ free1 ! $ move ! (25 ∷ 26 ∷ []) $ free1 ! $ move ! (23 ∷ 24 ∷ []) $ free1 ! $ move ! (21 ∷ 22 ∷ []) $ free1 ! $ move ! (1 ∷ 20 ∷ []) $ free1 ! $
         move ! (17 ∷ 18 ∷ []) $ free1 ! $ move ! (15 ∷ 16 ∷ []) $ free1 ! $ move ! (13 ∷ 14 ∷ []) $ free1 ! $ move ! (11 ∷ 12 ∷ []) $ free1 ! $ move ! (9 ∷ 10 ∷ []) $ free1 ! $ move ! (7 ∷ 8 ∷ []) $ free1 ! $ free0 ! $
@@ -233,18 +231,13 @@ module _ {M : Type 1} (𝓤 : URA M) (H : Heap 𝓤) (A : Atoms 𝓤) (W : Given
         by ! (exits r u (ws₂ .1 .1 .1 .1 .1 .0) len₂ (checked-result n k links (y .now) names₀ many (ws .1 .1 .1 .1 .0) g e (z .now) (ws₂ .1 .1 .1 .1 .1 .0) r e₂)))))))))))))))))))))))))
 
 pub write-result-spec : {M : Type 1} → stated.statement M
-unfolding code.routine tablesOf
+unfolding code.routine
 write-result-spec 𝓤 H 𝓜 𝓖 𝓡 =
-    let 𝓣 : Tables 𝓤 H = tablesOf 𝓤 H 𝓜 (tables 𝓤 H 𝓜 𝓡 code.env) in
-    let W : Given 𝓤 H (𝓖 .A) = givenOf 𝓤 H 𝓜 𝓖 in
-    entered 𝓤 H (tripleOf 𝓤 H (𝓖 .A) f.signature (f.spec 𝓤 H (𝓖 .A) (𝓜 .mem) (𝓡 .run)))
-    (tables 𝓤 H 𝓜 𝓡 code.env .C) (tables 𝓤 H 𝓜 𝓡 code.env .Λ) #write-result code.function (code.unfolded 𝓤 H 𝓜 𝓡)
-    (walk-meets 𝓤 H (𝓖 .A) f.ended stayed W
-    (goes-none 𝓤 H (𝓖 .A) W 3 (λ _. u64) yes (λ κs x f. refl), (goes-none 𝓤 H (𝓖 .A) W 3 (λ _. u64) yes (λ κs x f. refl), (goes-none-slice 𝓤 H (𝓖 .A) W 3 (0 ∷ []) tt (plain (λ _. R)) yes, (goes-none-slice 𝓤 H (𝓖 .A) W 3 (1 ∷ []) tt (plain (λ _. u8)) yes, (goes-gave-slice 𝓤 H (𝓖 .A) W 3 2 tt (plain (λ _. u8)), tt)))))
-    (f.clauses 𝓤 H (𝓖 .A) (𝓜 .mem) (𝓡 .run)) (WpFn 𝓤 H (𝓣 .C) (𝓣 .Λ) code.function) (WpFn-mono 𝓤 H (W .laws) 𝓣 code.function)
-    (walked 𝓤 H (𝓖 .A) f.ended stayed (f.clauses 𝓤 H (𝓖 .A) (𝓜 .mem) (𝓡 .run)) (WpFn 𝓤 H (𝓣 .C) (𝓣 .Λ) code.function)
-    (λ κs. (uint-vals w64, (uint-vals w64, (slice-vals, (slice-vals, (slice-vals, tt)))))) (λ κs. (uint-tells w64, (uint-tells w64, (shr-slice-tells (named 0) (κs .0) R, (shr-slice-tells (named 1) (κs .1 .0) u8, (mut-slice-tells (named 2) (κs .1 .1 .0) u8, tt))))))
-    (λ κs qs bounds a g are. via 𝓤 _ (fst∗ 𝓤 _ (emp 𝓤)) (walk 𝓤 H (𝓖 .A) W (𝓜 .mem) (𝓡 .run) (κs .0) (κs .1 .0) (κs .1 .1 .0) (qs .0) (qs .1 .0) (qs .1 .1 .0) (a .0) (a .1 .0) (a .1 .1 .0) (a .1 .1 .1 .0) (a .1 .1 .1 .1 .0)
+    meets 𝓤 H 𝓜 𝓖 𝓡 code.env f.ended stayed (f.clauses 𝓤 H (𝓖 .A) (𝓜 .mem) (𝓡 .run)) #write-result code.function (code.unfolded 𝓤 H 𝓜 𝓡)
+    (λ W. (goes-none 𝓤 H (𝓖 .A) W 3 (λ _. u64) yes (λ κs x f. refl), (goes-none 𝓤 H (𝓖 .A) W 3 (λ _. u64) yes (λ κs x f. refl), (goes-none-slice 𝓤 H (𝓖 .A) W 3 (0 ∷ []) tt (plain (λ _. R)) yes, (goes-none-slice 𝓤 H (𝓖 .A) W 3 (1 ∷ []) tt (plain (λ _. u8)) yes, (goes-gave-slice 𝓤 H (𝓖 .A) W 3 2 tt (plain (λ _. u8)), tt))))))
+    (λ κs. (uint-vals w64, (uint-vals w64, (slice-vals, (slice-vals, (slice-vals, tt))))))
+    (λ κs. (uint-tells w64, (uint-tells w64, (shr-slice-tells (named 0) (κs .0) R, (shr-slice-tells (named 1) (κs .1 .0) u8, (mut-slice-tells (named 2) (κs .1 .1 .0) u8, tt))))))
+    (λ W 𝓣 known κs qs bounds a g are. via 𝓤 _ (fst∗ 𝓤 _ (emp 𝓤)) (walk 𝓤 H (𝓖 .A) W (𝓜 .mem) (𝓡 .run) (κs .0) (κs .1 .0) (κs .1 .1 .0) (qs .0) (qs .1 .0) (qs .1 .1 .0) (a .0) (a .1 .0) (a .1 .1 .0) (a .1 .1 .1 .0) (a .1 .1 .1 .1 .0)
     (are .0 .1) (are .1 .0 .1) (are .1 .1 .0 .0 .1) (are .1 .1 .1 .0 .0 .1) (are .1 .1 .1 .1 .0 .0 .1) 𝓣
-    (cited 𝓤 H (Check 𝓤 H (𝓖 .A) (𝓜 .mem) (𝓡 .run)) 𝓜 𝓡 code.env #checking-records chk-def.routine code.calls-cutting·checking-records (chk-thm.met 𝓤 H 𝓜 𝓖 𝓡))
-    (cited 𝓤 H (After 𝓤 H (𝓖 .A) (𝓜 .mem) (𝓡 .run)) 𝓜 𝓡 code.env #result-after aft-def.routine code.calls-texts·result·result-after (aft-thm.met 𝓤 H 𝓜 𝓖 𝓡))))))
+    (known #checking-records chk-def.routine code.calls-cutting·checking-records (Check 𝓤 H (𝓖 .A) (𝓜 .mem) (𝓡 .run)) (chk-thm.met 𝓤 H 𝓜 𝓖 𝓡))
+    (known #result-after aft-def.routine code.calls-texts·result·result-after (After 𝓤 H (𝓖 .A) (𝓜 .mem) (𝓡 .run)) (aft-thm.met 𝓤 H 𝓜 𝓖 𝓡))))

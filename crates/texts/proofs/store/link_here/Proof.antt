@@ -1,5 +1,5 @@
 use native.Mathlib.Omega.{arith}
-use Rattle.texts.specs.Storing.{linkAt}
+use Rattle.texts.specs.Storing.{linkHere}
 use Rattle.texts.proofs.Walks.{within}
 use Rattle.texts.proofs.store.link_here.Statement.{statement}
 use Rattle.texts.proofs.store.link_here.Tie as tie
@@ -33,7 +33,7 @@ number-at-requires c κs =
 
 -- src/store.rt:43:1
 returns : tie.Need-returns
-unfolding linkAt
+unfolding linkHere
 returns c =
     let a = c .before .before .byte-at .ensures in
     let b = c .before .byte-at2 .ensures in

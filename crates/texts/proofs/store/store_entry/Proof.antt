@@ -3,9 +3,11 @@ use mathlib.Core.List.{List}
 use mathlib.Core.Path.{_≡_, _∙_, ap}
 use native.Mathlib.Omega.{arith}
 use lib.ListN.{length, drop, set}
+use Rattle.meaning.specs.Room.{over}
 use Rattle.cutting.specs.Record.{entrySize}
+use Rattle.texts.specs.Storing.{payloadAt}
 use Rattle.texts.proofs.Walks.{within}
-use Rattle.texts.proofs.ReadsStore.{stored, stored-none, stored-more, stored-length}
+use Rattle.texts.proofs.ReadsStore.{stored-none, stored-more, stored-length}
 use Rattle.texts.proofs.store.store_entry.Statement.{statement}
 use Rattle.texts.proofs.store.store_entry.Tie as tie
 use Rattle.texts.proofs.store.store_entry.Reads as reads
@@ -13,7 +15,7 @@ use Rattle.texts.proofs.store.store_entry.Lts as lts
 use Rattle.texts.proofs.frame.byte_at.Reads as byte-at-reads
 
 abbrev Inv-loop : tie.InvT-loop
-Inv-loop text at space₀ to i₀ space i = (i ≤ entrySize) × (space ≡ stored (drop at text) space₀ to i)
+Inv-loop text at space₀ to i₀ space i = (i ≤ entrySize) × (space ≡ over space₀ to (payloadAt (drop at text) i))
 
 abbrev μ-loop : tie.MeasureT-loop
 μ-loop text at space₀ to i₀ space i = entrySize - i
@@ -90,7 +92,7 @@ returns c =
     let a = s .args in
     let cs = drop (a .at) (a .text .now) in
     let e : l .loop .i ≡ entrySize = omega arith in
-    l .loop .inv .1 ∙ ap (stored cs (a .space .now) (a .to)) e
+    l .loop .inv .1 ∙ ap (λ (m : ℕ). over (a .space .now) (a .to) (payloadAt cs m)) e
 
 pub store-entry-spec : {M : Type 1} → statement M
 store-entry-spec =

@@ -2,12 +2,10 @@
 use Prim.Native.Nat.{ℕ, _*_}
 use mathlib.Core.Bool.{true}
 use mathlib.Core.List.{List, [], _++_}
-use lib.Dec.{ltb}
-use lib.ListN.{length}
 use Rattle.meaning.specs.declared.Link.{Link}
 use Rattle.meaning.specs.declared.Judged.{Judged}
 use Rattle.meaning.specs.declared.Judged.the-variants.{Accepted, Refused}
-use Rattle.meaning.specs.Judge.{refuse, first}
+use Rattle.meaning.specs.Judge.{first}
 use Rattle.meaning.specs.Tally.{pairTally}
 use Rattle.cutting.specs.Record.{entrySize}
 use Rattle.cutting.specs.Rows.{thinningRows}
@@ -16,7 +14,7 @@ use Rattle.texts.specs.declared.Written.{Written}
 use Rattle.texts.specs.Lines.{linesOf}
 use Rattle.texts.specs.Reader.{linksIn, bonesIn, thresholdIn, readerRows}
 use Rattle.texts.specs.Kinds.{refusalLine}
-use Rattle.texts.specs.Writing.{Writes}
+use Rattle.texts.specs.Writing.{WritesWhole}
 use Rattle.texts.specs.Inputs.{inputText}
 
 -- what it tries: what the reader tries, and on what was read what thinning tries; there is room for 4,096 links and 127 cuts. Of the input writer's rows only
@@ -38,7 +36,7 @@ thinPrinted (Refused number place) n k links = refusalLine number place
 
 -- it stands at the front of the space lent for it, the rest as it was; or the answer is refusal 20, and nothing is written
 abbrev pub ThinAnswers : Judged → ℕ → ℕ → List Link → List ℕ → List ℕ → Written → Type 0
-ThinAnswers rows n k links out out′ r = Writes (refuse (ltb (length out) (length (thinPrinted rows n k links))) 20 0) (thinPrinted rows n k links) out out′ r
+ThinAnswers rows n k links out out′ r = WritesWhole (thinPrinted rows n k links) out out′ r
 
 -- the program's answer to an input text
 abbrev pub ThinsText : List ℕ → List ℕ → List ℕ → Written → Type 0
