@@ -26,10 +26,10 @@ use Rattle.cutting.specs.declared.Answer.{Answer}
 use Rattle.cutting.specs.Record.{entrySize, cutsOf}
 use Rattle.cutting.specs.RecordRows.{recordRows}
 use Rattle.cutting.specs.Rows.{labelRow, spaceRow, groupingRows}
-use Rattle.cutting.specs.Runs.{answered, Recorded, Continued}
+use Rattle.cutting.specs.Runs.{answered, Recorded, Continued, Sound}
 use Rattle.cutting.specs.Calls.{Grouping}
 use Rattle.cutting.proofs.Cuts.{length-cuts}
-use Rattle.cutting.proofs.Continuing.{Sound, record-sound}
+use Rattle.cutting.proofs.Continuing.{record-sound}
 use Rattle.cutting.proofs.Demands.{own, own-sound}
 use Rattle.cutting.proofs.Lawful.{record-fits, lawful-entries}
 use Rattle.texts.specs.declared.Written.{Written}

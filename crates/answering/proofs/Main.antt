@@ -30,10 +30,8 @@ use Rattle.cutting.specs.declared.Thinned.the-variants.{Refused as Refused·thi
 use Rattle.cutting.specs.Record.{entrySize, cutsOf}
 use Rattle.cutting.specs.Names.{names}
 use Rattle.cutting.specs.Rows.{checkingRows, groupingRows}
-use Rattle.cutting.specs.Runs.{Continued}
+use Rattle.cutting.specs.Runs.{Sound, Stopped, Continued}
 use Rattle.cutting.specs.Calls.{kept, Checking, Grouping, Thins}
-use Rattle.cutting.proofs.Lawful.{Stopped}
-use Rattle.cutting.proofs.Continuing.{Sound}
 use Rattle.cutting.proofs.Demands as Demands
 use Rattle.texts.specs.declared.Reading.{Reading}
 use Rattle.texts.specs.declared.Reading.the-variants.{Got, Refused as Refused·reading}
@@ -43,9 +41,8 @@ use Rattle.texts.specs.Lines.{linesOf}
 use Rattle.texts.specs.Kinds.{headLine, cutLines, labelLines, closeLine, refusalLine}
 use Rattle.texts.specs.Reader.{readerRows, Reads}
 use Rattle.texts.specs.Writing.{Writes}
-use Rattle.texts.specs.Inputs.{inputText, inputRows}
+use Rattle.texts.specs.Inputs.{AllFramed, inputText, inputRows}
 use Rattle.texts.specs.Writers.{unnoted}
-use Rattle.texts.proofs.RoundTripWritten.{Smalls}
 use Rattle.texts.proofs.Texts as Texts
 use Rattle.answering.specs.Prints.{programRows, Result, Answering}
 use Rattle.answering.specs.ThinPrints.{thinPrinted}
@@ -94,7 +91,7 @@ module _ (n k : ℕ) (links : List Link) where
   true-weight = Refusing.cut-shown n (pairTally links) k
 
 -- links and cuts written as text are read back the same
-pub written-then-read : (n k : ℕ) (links : List Link) (bytes room room′ : List ℕ) (count : ℕ) → Smalls links → Bytes bytes
+pub written-then-read : (n k : ℕ) (links : List Link) (bytes room room′ : List ℕ) (count : ℕ) → AllFramed links → Bytes bytes
     → Writes (first (inputRows n k links bytes (length room))) (inputText n k links bytes) room room′ (Wrote count)
     → (linkSpace linkSpace′ : List Link) (space space′ : List ℕ) (r : Reading) → length links ≤ length linkSpace → length bytes ≤ length space
     → Reads (take count room′) linkSpace linkSpace′ space space′ r

@@ -21,7 +21,7 @@ use Rattle.cutting.specs.Finish.{Begun, Ended}
 use Rattle.meaning.specs.Room.{over}
 use Rattle.meaning.proofs.Room.{over-front, length-over}
 use Rattle.cutting.specs.Names.{names}
-use Rattle.cutting.specs.Runs.{Continued}
+use Rattle.cutting.specs.Runs.{Sound, Continued}
 use Rattle.cutting.proofs.Names.{names-same}
 use Rattle.cutting.proofs.Cuts.{length-cuts, cuts-front, cuts-of}
 use Rattle.cutting.proofs.Narrow.{narrow-cuts}
@@ -33,12 +33,6 @@ ended-label : (n : ℕ) (w : Tally) (k : ℕ) (space : List ℕ) (cuts : ℕ) (n
 ended-label n w k space cuts names′ space′ cuts′ some-bones e b l =
     ap (λ (h : Heap). h b) (e .heap)
     ∙ run-labels n w k some-bones (cutsIn cuts′ space′) (e .run) (subst (λ (h : Heap). T (finished n w k h)) (e .heap) (e .done)) b l
-
--- what rows 9 to 13 accept
-pub record Sound (n : ℕ) (w : Tally) (k : ℕ) (bytes : List ℕ) : Type 0 where
-  pub whole : length bytes % entrySize ≡ 0
-  pub few : length bytes / entrySize ≤ n - 1
-  pub run : LawfulRun n w k start (cutsOf bytes)
 
 neither : (a b : Bool) → a || b ≡ false → (a ≡ false) × (b ≡ false)
 neither true b e = (e, absurd (subst T e tt))

@@ -27,16 +27,15 @@ use Rattle.cutting.specs.Rows.{checkingRows, groupingRows}
 use Rattle.meaning.specs.Room.{over}
 use Rattle.meaning.proofs.Room.{settled-new}
 use Rattle.cutting.specs.Names.{names}
-use Rattle.cutting.specs.Runs.{answered, Recorded, Continued}
+use Rattle.cutting.specs.Runs.{answered, Recorded, Continued, Sound, Stopped}
 use Rattle.cutting.specs.Calls.{Checking, Grouping}
 use Rattle.cutting.proofs.Names.{names-same}
 use Rattle.cutting.proofs.Cuts.{length-cuts}
 use Rattle.cutting.proofs.Narrow.{narrow-cuts}
-use Rattle.cutting.proofs.Lawful.{Stopped, entries-lawful, lawful-entries, entries-stop, record-fits}
+use Rattle.cutting.proofs.Lawful.{entries-lawful, lawful-entries, entries-stop, record-fits}
 use Rattle.cutting.proofs.Finish.{cuts-most, run-labels, run-groups, run-cuts}
 use Rattle.cutting.proofs.Answers.{label-fits, space-fits}
 use Rattle.cutting.proofs.Carried.{checking-core, grouping-core}
-use Rattle.cutting.proofs.Continuing.{Sound}
 
 module _ (n k : ℕ) (good : Bool) (links : List Link) (judged : first (tableRows n k good links) ≡ Accepted) where
   counted : Counted n k good (length links)

@@ -22,6 +22,7 @@ use Rattle.meaning.proofs.Sets.{some-intro, some-elim}
 use Rattle.meaning.proofs.Heaps.{pile-bone}
 use Rattle.cutting.specs.Record.{entrySize, cutsOf}
 use Rattle.cutting.proofs.Narrow.{Narrow, Narrows}
+use Rattle.cutting.specs.Runs.{Stopped}
 use Rattle.cutting.specs.RecordRows.{astray, entryRows, entriesRows, recordRow, recordRows}
 use Rattle.links.proofs.LinksRows.{never-both, first-accepted, first-refused, accepted-left, accepted-right}
 
@@ -152,24 +153,13 @@ module _ (n : ℕ) (w : Tally) (k : ℕ) where
   lawful-entries (c ∷ cs) h i few run =
       first-accepted (entryRows n w k h i c) _ (lawful-entry n w k h c i few (run .0)) ∙ lawful-entries cs (parted n h c) (suc i) few (run .1)
 
-  -- a record that is refused: a lawful run up to the entry in the refusal's place, which is not lawful
-  pub record Stopped (h : Heap) (i : ℕ) (cs : List Cut) (number place : ℕ) : Type 0 where
-    pub before : List Cut
-    pub at : Cut
-    pub after : List Cut
-    pub whole : cs ≡ before ++ at ∷ after
-    pub run : LawfulRun n w k h before
-    pub wrong : Lawful n w k (left n h before) at → ⊥
-    pub row : first (entryRows n w k (left n h before) place at) ≡ Refused number place
-    pub here : place ≡ i + length before
-
-  pub entries-stop : (cs : List Cut) (h : Heap) (i number place : ℕ) → n ≤ 128 → Narrows cs → first (entriesRows n w k h i cs) ≡ Refused number place → Stopped h i cs number place
+  pub entries-stop : (cs : List Cut) (h : Heap) (i number place : ℕ) → n ≤ 128 → Narrows cs → first (entriesRows n w k h i cs) ≡ Refused number place → Stopped n w k h i cs number place
   unfolding entriesRows LawfulRun left
   entries-stop [] h i number place few narrow e = absurd (never-both (first []) number place first-none e)
   entries-stop (c ∷ cs) h i number place few narrow e =
       go (first (entryRows n w k h i c)) refl (λ a. entries-stop cs (parted n h c) (suc i) number place few (narrow .1) (sym (first-accepted (entryRows n w k h i c) _ a) ∙ e))
     where
-      go : (r : Judged) → first (entryRows n w k h i c) ≡ r → (first (entryRows n w k h i c) ≡ Accepted → Stopped (parted n h c) (suc i) cs number place) → Stopped h i (c ∷ cs) number place
+      go : (r : Judged) → first (entryRows n w k h i c) ≡ r → (first (entryRows n w k h i c) ≡ Accepted → Stopped n w k (parted n h c) (suc i) cs number place) → Stopped n w k h i (c ∷ cs) number place
       go Accepted a f =
           let s = f a in
           record {

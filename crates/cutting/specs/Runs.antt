@@ -1,8 +1,8 @@
 -- What checking and grouping promise of any tally and any rows tried: the answer, and every lent byte afterwards.
-use Prim.Native.Nat.{ℕ, _*_, _-_}
+use Prim.Native.Nat.{ℕ, _+_, _*_, _-_, _/_, _%_, _≤_}
 use mathlib.Core.Path.{_≡_}
 use mathlib.Core.Bool.{Bool, true}
-use mathlib.Core.List.{List}
+use mathlib.Core.List.{List, _∷_, _++_}
 use lib.Dec.{T}
 use lib.ListN.{length, take, drop}
 use Rattle.meaning.specs.declared.Judged.{Judged}
@@ -11,10 +11,11 @@ use Rattle.meaning.specs.Judge.{first}
 use Rattle.meaning.specs.Room.{over, settled}
 use Rattle.meaning.specs.Tally.{Tally}
 use Rattle.meaning.specs.Firm.{label, groups}
-use Rattle.meaning.specs.Heap.{Heap, start, piles, LawfulRun, left, finished}
+use Rattle.meaning.specs.Heap.{Heap, start, piles, Cut, Lawful, LawfulRun, left, finished}
 use Rattle.cutting.specs.declared.Answer.{Answer}
 use Rattle.cutting.specs.declared.Answer.the-variants.{Gave, Refused as Refused·answer}
 use Rattle.cutting.specs.Record.{entrySize, cutsOf}
+use Rattle.cutting.specs.RecordRows.{entryRows}
 use Rattle.cutting.specs.Names.{names}
 
 -- an answer: the refusal, or a number and whether the run is finished
@@ -25,6 +26,23 @@ answered (Refused number place) count done = Refused·answer number place
 -- the pile names that a record's cuts leave
 abbrev pub namesLeft : ℕ → List ℕ → Heap
 namesLeft n bytes = left n start (cutsOf bytes)
+
+-- a record that may be handed on: whole entries, n − 1 at most, that are a lawful run
+pub record Sound (n : ℕ) (w : Tally) (k : ℕ) (bytes : List ℕ) : Type 0 where
+  pub whole : length bytes % entrySize ≡ 0
+  pub few : length bytes / entrySize ≤ n - 1
+  pub run : LawfulRun n w k start (cutsOf bytes)
+
+-- cuts that are refused, the first of them in place i: a lawful run up to the one in the refusal's place, which is not lawful
+pub record Stopped (n : ℕ) (w : Tally) (k : ℕ) (h : Heap) (i : ℕ) (cs : List Cut) (number place : ℕ) : Type 0 where
+  pub before : List Cut
+  pub at : Cut
+  pub after : List Cut
+  pub whole : cs ≡ before ++ at ∷ after
+  pub run : LawfulRun n w k h before
+  pub wrong : Lawful n w k (left n h before) at → ⊥
+  pub row : first (entryRows n w k (left n h before) place at) ≡ Refused number place
+  pub here : place ≡ i + length before
 
 -- checking: the piles that the record leaves. `rows` is what is tried, and w the tally that the links make
 pub record Checked (rows : List Judged) (n : ℕ) (w : Tally) (k : ℕ) (bytes labels labels′ : List ℕ) (r : Answer) : Type 0 where

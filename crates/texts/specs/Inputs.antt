@@ -1,5 +1,5 @@
 -- What the input writer writes, and what it tries.
-use Prim.Native.Nat.{ℕ, _+_, _/_}
+use Prim.Native.Nat.{ℕ, _+_, _/_, _<_}
 use mathlib.Core.Bool.{true}
 use mathlib.Core.List.{List, [], _∷_, _++_}
 use lib.ListN.{length}
@@ -12,6 +12,16 @@ use Rattle.cutting.specs.RecordRows.{recordRow}
 use Rattle.texts.specs.declared.Written.{Written}
 use Rattle.texts.specs.Kinds.{headLine, linkLines, cutLines, closeLine}
 use Rattle.texts.specs.Writing.{textRow, Writes}
+
+-- a link that its frame holds, as the types of its parts in code have it; and so each link of a list
+pub record Framed (l : Link) : Type 0 where
+  pub first-end : l .a < 256
+  pub second-end : l .b < 256
+  pub traits : l .tally < 65536
+
+abbrev pub AllFramed : List Link → Type 0
+AllFramed [] = Unit {0}
+AllFramed (l ∷ ls) = Framed l × AllFramed ls
 
 -- an input text: head, links, cuts, close
 unfoldable pub inputText : ℕ → ℕ → List Link → List ℕ → List ℕ
