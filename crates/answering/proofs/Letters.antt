@@ -30,7 +30,7 @@ use Rattle.texts.specs.Lines.{linesOf}
 use Rattle.texts.specs.Reader.{linksIn, entriesIn, bonesIn, thresholdIn, readerRows}
 use Rattle.texts.specs.declared.Written.{Written}
 use Rattle.texts.specs.Kinds.{two, headLine, linkLine, linkLines, cutLines, labelLine, labelLines, closeLine, refusalLine}
-use Rattle.texts.specs.Inputs.{AllFramed, inputText}
+use Rattle.texts.specs.Inputs.{AllInFrames, inputText}
 use Rattle.answering.specs.Prints.{groupedRows, programRows, Result, Printed, Answering}
 use Rattle.answering.proofs.Fitting.{Fits, both-fit, reader-fits, grouping-fits, thinning-fits}
 use Rattle.answering.proofs.Theorems.{settled-but-cuts, accepted-counts}
@@ -96,7 +96,7 @@ only-letters input out out′ r a =
 
 -- ---- the program `thin`
 
-links-letters : (ls : List Link) → AllFramed ls → T (lettered (linkLines ls))
+links-letters : (ls : List Link) → AllInFrames ls → T (lettered (linkLines ls))
 unfolding linkLines linkLine lettered
 links-letters [] s = tt
 links-letters (l ∷ ls) s =
@@ -105,7 +105,7 @@ links-letters (l ∷ ls) s =
     (bytes-cons (l .a) (l .b ∷ two (l .tally)) (s .0 .first-end) (bytes-cons (l .b) (two (l .tally)) (s .0 .second-end) (two-bytes (l .tally) (s .0 .traits))))))
     (links-letters ls (s .1))
 
-thinned-letters : (n k : ℕ) (ls : List Link) → n ≤ 128 → k ≤ 65535 → length ls ≤ 4096 → AllFramed ls → T (lettered (inputText n k ls []))
+thinned-letters : (n k : ℕ) (ls : List Link) → n ≤ 128 → k ≤ 65535 → length ls ≤ 4096 → AllInFrames ls → T (lettered (inputText n k ls []))
 unfolding inputText headLine cutLines closeLine
 thinned-letters n k ls few low short s =
     letters-append (headLine n k ++ linkLines ls ++ []) (closeLine (1 + length ls + 0))

@@ -41,7 +41,7 @@ use Rattle.texts.specs.Lines.{linesOf}
 use Rattle.texts.specs.Kinds.{headLine, cutLines, labelLines, closeLine, refusalLine}
 use Rattle.texts.specs.Reader.{readerRows, Reads}
 use Rattle.texts.specs.Writing.{Writes}
-use Rattle.texts.specs.Inputs.{AllFramed, inputText, inputRows}
+use Rattle.texts.specs.Inputs.{AllInFrames, inputText, inputRows}
 use Rattle.texts.specs.Writers.{unnoted}
 use Rattle.texts.proofs.Texts as Texts
 use Rattle.answering.specs.Prints.{programRows, Result, Answering}
@@ -91,7 +91,7 @@ module _ (n k : ℕ) (links : List Link) where
   true-weight = Refusing.cut-shown n (pairTally links) k
 
 -- links and cuts written as text are read back the same
-pub written-then-read : (n k : ℕ) (links : List Link) (bytes room room′ : List ℕ) (count : ℕ) → AllFramed links → Bytes bytes
+pub written-then-read : (n k : ℕ) (links : List Link) (bytes room room′ : List ℕ) (count : ℕ) → AllInFrames links → Bytes bytes
     → Writes (first (inputRows n k links bytes (length room))) (inputText n k links bytes) room room′ (Wrote count)
     → (linkSpace linkSpace′ : List Link) (space space′ : List ℕ) (r : Reading) → length links ≤ length linkSpace → length bytes ≤ length space
     → Reads (take count room′) linkSpace linkSpace′ space space′ r

@@ -42,7 +42,7 @@ use Rattle.texts.specs.declared.Written.{Written}
 use Rattle.texts.specs.declared.Written.the-variants.{Wrote}
 use Rattle.texts.specs.Writing.{wrote, Writes}
 use Rattle.texts.proofs.WritesLines.{length-refusal}
-use Rattle.texts.specs.Inputs.{Framed, AllFramed, inputText, inputRows}
+use Rattle.texts.specs.Inputs.{InFrame, AllInFrames, inputText, inputRows}
 use Rattle.texts.specs.Steps.{inputSize}
 use Rattle.texts.proofs.RoundTripWritten.{bytes-none}
 use Rattle.texts.proofs.RoundTripCalls.{lines-accepted}
@@ -54,13 +54,13 @@ use Rattle.answering.proofs.Theorems.{counted}
 -- ---- links that a text holds
 
 -- the link of a well formed line fits its frame
-line-small : (l : Line) → T (wellFormed (l .characters)) → Framed (linkIn l)
+line-small : (l : Line) → T (wellFormed (l .characters)) → InFrame (linkIn l)
 unfolding linkIn pair frame
 line-small l t =
     let are : Bytes (frame l) = bytes-bytesOf (l .characters) (well-parts (l .characters) t .0) in
     record { first-end = are 1; second-end = are 2; traits = omega (arith, are 3, are 4) }
 
-links-small : (ls : List Line) → T (allWell ls) → AllFramed (linksIn ls)
+links-small : (ls : List Line) → T (allWell ls) → AllInFrames (linksIn ls)
 unfolding linksIn allWell
 links-small [] t = tt
 links-small (l ∷ ls) t =
@@ -68,12 +68,12 @@ links-small (l ∷ ls) t =
     (line-small l (right-of (l .ended) (wellFormed (l .characters)) (left-of (l .ended && wellFormed (l .characters)) (allWell ls) t)))
     (links-small ls (right-of (l .ended && wellFormed (l .characters)) (allWell ls) t))
   where
-    go : (b : Bool) → Framed (linkIn l) → AllFramed (linksIn ls) → AllFramed (cond b (linkIn l ∷ linksIn ls) (linksIn ls))
+    go : (b : Bool) → InFrame (linkIn l) → AllInFrames (linksIn ls) → AllInFrames (cond b (linkIn l ∷ linksIn ls) (linksIn ls))
     go true here rest = (here, rest)
     go false here rest = rest
 
-kept-small : (labels : List ℕ) (ls : List Link) → AllFramed ls → AllFramed (keptLinks labels ls)
-kept-small = kept-holds AllFramed (λ l ls s. (s .1, λ ks q. (s .0, q)))
+kept-small : (labels : List ℕ) (ls : List Link) → AllInFrames ls → AllInFrames (keptLinks labels ls)
+kept-small = kept-holds AllInFrames (λ l ls s. (s .1, λ ks q. (s .0, q)))
 
 -- ---- what may be printed
 
@@ -106,7 +106,7 @@ module _ (input : List ℕ) where
     unfolding thinRows thinnedRows
     thinned = accepted-right (readerRows input 4096 (entrySize * 127)) _ accepted
 
-    pub small : AllFramed stay
+    pub small : AllInFrames stay
     unfolding thinRows
     small =
         let lines = lines-accepted input 4096 (entrySize * 127) (accepted-left (readerRows input 4096 (entrySize * 127)) _ accepted) in

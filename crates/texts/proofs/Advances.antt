@@ -25,7 +25,7 @@ use Rattle.frames.proofs.Steps.{one-more, as-many}
 use Rattle.frames.specs.Stages.{after, open-at}
 use Rattle.texts.specs.Lines.{Line, linesOf, lineRows}
 use Rattle.texts.specs.Reader.{read, entryIn, linksIn, entriesIn, bonesIn, thresholdIn}
-use Rattle.texts.specs.Walk.{byteAt, digitsAt, sizeAt, Found}
+use Rattle.texts.specs.Walk.{byteAt, digitsAt, sizeAt, FrameFound}
 use Rattle.texts.specs.Judging.{Passes, LineJudged, Bounded, Ready, Advanced, headFrom, readingOf, readFrom}
 use Rattle.texts.proofs.Lines.{front}
 use Rattle.texts.proofs.Walks.{size-of, well-digits, well-room}
@@ -262,7 +262,7 @@ read-end text s h e =
     ap (readFrom s) none
     ∙ (λ i. readingOf (rows i) (headFrom (shut i) (bonesIn []) (s .n)) (headFrom (shut i) (thresholdIn []) (s .k)) (a i) (b i))
 
-pub ready : (text : List ℕ) (s : Progress) (f : Frame) (number : ℕ) → Bounded text s → Found (drop (s .at) text) f
+pub ready : (text : List ℕ) (s : Progress) (f : Frame) (number : ℕ) → Bounded text s → FrameFound (drop (s .at) text) f
     → LineJudged (drop (s .at) text) (s .stage) (s .line) number → number ≡ 0 → Ready text s f
 ready text s f number small found judged e =
     let p = judged .passed e in

@@ -27,7 +27,7 @@ use Rattle.frames.specs.declared.stage.Stage.the-variants.{Opening}
 use Rattle.texts.specs.Lines.{Line, linesOf, lineRows}
 use Rattle.texts.specs.Reader.{linksIn, entriesIn, bonesIn, thresholdIn, readerRows, read, Reads}
 use Rattle.texts.specs.Writing.{wrote, Writes}
-use Rattle.texts.specs.Inputs.{AllFramed, inputText, inputRows}
+use Rattle.texts.specs.Inputs.{AllInFrames, inputText, inputRows}
 use Rattle.texts.specs.Writers.{unnoted}
 use Rattle.meaning.specs.Bytes.{Bytes}
 use Rattle.texts.proofs.WritesRows.{row-accepted}
@@ -47,7 +47,7 @@ record Accepts (n k : ℕ) (links : List Link) (bytes : List ℕ) (room : ℕ) :
   few-entries : length bytes ≤ entrySize * 127
   space : length (inputText n k links bytes) ≤ room
 
-accepts : (n k : ℕ) (links : List Link) (bytes : List ℕ) (room : ℕ) → AllFramed links → Bytes bytes → first (inputRows n k links bytes room) ≡ Accepted
+accepts : (n k : ℕ) (links : List Link) (bytes : List ℕ) (room : ℕ) → AllInFrames links → Bytes bytes → first (inputRows n k links bytes room) ≡ Accepted
     → Accepts n k links bytes room
 unfolding inputRows tableRows recordRow
 accepts n k links bytes room s f e =
@@ -130,7 +130,7 @@ got-by Accepted ls n k l c e = refl
 got-by (Refused number place) ls n k l c e = let z : _≡_ {A = ℕ} 0 1 = cc in absurd (omega arith)
 
 -- what is read from a text that the input writer wrote
-pub write-read : (n k : ℕ) (links : List Link) (bytes room room′ : List ℕ) (count : ℕ) → AllFramed links → Bytes bytes
+pub write-read : (n k : ℕ) (links : List Link) (bytes room room′ : List ℕ) (count : ℕ) → AllInFrames links → Bytes bytes
     → Writes (first (inputRows n k links bytes (length room))) (inputText n k links bytes) room room′ (Wrote count)
     → (linkSpace linkSpace′ : List Link) (space space′ : List ℕ) (r : Reading)
     → length links ≤ length linkSpace

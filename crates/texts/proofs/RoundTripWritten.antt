@@ -19,7 +19,7 @@ use Rattle.texts.specs.Lines.{Line, linesOf, pair, lineRows}
 use Rattle.frames.specs.Stages.{follows, after, open-at}
 use Rattle.texts.specs.Reader.{linkIn, linksIn, entryIn, entriesIn, bonesIn, thresholdIn}
 use Rattle.texts.specs.Kinds.{two, headLine, linkLine, linkLines, cutLines, closeLine}
-use Rattle.texts.specs.Inputs.{Framed, AllFramed, inputText}
+use Rattle.texts.specs.Inputs.{InFrame, AllInFrames, inputText}
 use Rattle.meaning.specs.Bytes.{Bytes}
 use Rattle.texts.proofs.RoundTripLines.{lineOf, first-line, frame-is, kind-is, pair-is, row-passed, not-not}
 
@@ -49,7 +49,7 @@ bytes-two m h = bytes-cons (m / 256) (m % 256 ∷ []) (omega arith) (bytes-cons 
 abbrev linkBytes : Link → List ℕ
 linkBytes l = l .a ∷ l .b ∷ two (l .tally)
 
-linkBytes-are : (l : Link) → Framed l → Bytes (2 ∷ linkBytes l)
+linkBytes-are : (l : Link) → InFrame l → Bytes (2 ∷ linkBytes l)
 linkBytes-are l s =
     bytes-cons 2 (linkBytes l) (omega arith)
     (bytes-cons (l .a) (l .b ∷ two (l .tally)) (s .first-end) (bytes-cons (l .b) (two (l .tally)) (s .second-end) (bytes-two (l .tally) (s .traits))))
@@ -58,7 +58,7 @@ abbrev linkLs : List Link → List Line
 linkLs [] = []
 linkLs (l ∷ ls) = lineOf 2 (linkBytes l) ∷ linkLs ls
 
-lines-links : (links : List Link) (rest : List ℕ) → AllFramed links → linesOf (linkLines links ++ rest) ≡ linkLs links ++ linesOf rest
+lines-links : (links : List Link) (rest : List ℕ) → AllInFrames links → linesOf (linkLines links ++ rest) ≡ linkLs links ++ linesOf rest
 unfolding linkLines linkLine
 lines-links [] rest s = refl
 lines-links (l ∷ ls) rest s =
@@ -66,7 +66,7 @@ lines-links (l ∷ ls) rest s =
     ∙ first-line 2 (linkBytes l) (linkBytes-are l (s .0)) (linkLines ls ++ rest)
     ∙ ap (λ (ms : List Line). lineOf 2 (linkBytes l) ∷ ms) (lines-links ls rest (s .1))
 
-link-read : (l : Link) → Framed l → linkIn (lineOf 2 (linkBytes l)) ≡ l
+link-read : (l : Link) → InFrame l → linkIn (lineOf 2 (linkBytes l)) ≡ l
 unfolding linkIn pair two
 link-read l s =
     let whole-tally : l .tally / 256 * 256 + l .tally % 256 ≡ l .tally = omega arith in
@@ -74,17 +74,17 @@ link-read l s =
     (frame-is 2 (linkBytes l) (linkBytes-are l s))
     ∙ ap {B = Link} (λ (t : ℕ). record { a = l .a; b = l .b; tally = t }) whole-tally
 
-links-read : (links : List Link) (ls : List Line) → AllFramed links → linksIn (linkLs links ++ ls) ≡ links ++ linksIn ls
+links-read : (links : List Link) (ls : List Line) → AllInFrames links → linksIn (linkLs links ++ ls) ≡ links ++ linksIn ls
 unfolding linksIn
 links-read [] ls s = refl
 links-read (l ∷ links) ls s = rw (kind-is 2 (linkBytes l) (linkBytes-are l (s .0))) (ap₂ _∷_ (link-read l (s .0)) (links-read links ls (s .1)))
 
-links-entries : (links : List Link) (ls : List Line) → AllFramed links → entriesIn (linkLs links ++ ls) ≡ entriesIn ls
+links-entries : (links : List Link) (ls : List Line) → AllInFrames links → entriesIn (linkLs links ++ ls) ≡ entriesIn ls
 unfolding entriesIn
 links-entries [] ls s = refl
 links-entries (l ∷ links) ls s = rw (kind-is 2 (linkBytes l) (linkBytes-are l (s .0))) (links-entries links ls (s .1))
 
-links-rows : (links : List Link) (i : ℕ) (ls : List Line) → AllFramed links
+links-rows : (links : List Link) (i : ℕ) (ls : List Line) → AllInFrames links
     → first (lineRows Linking i (linkLs links ++ ls)) ≡ first (lineRows Linking (i + length links) ls)
 unfolding follows after isKind two
 links-rows [] i ls s = let e : i ≡ i + 0 = omega arith in ap (λ (m : ℕ). first (lineRows Linking m ls)) e
@@ -185,7 +185,7 @@ ending-rows (suc m) bytes i f h k =
 pub record Written (n k : ℕ) (links : List Link) (bytes : List ℕ) : Type 0 where
   pub bones : n < 256
   pub threshold : k < 65536
-  pub tallies : AllFramed links
+  pub tallies : AllInFrames links
   pub entries : Bytes bytes
   pub entire : length bytes % entrySize ≡ 0
   pub frames : 1 + length links + length bytes / entrySize < 65536

@@ -1,5 +1,5 @@
 -- The theorems about texts, over all inputs, each closed by a citation.
--- A link's bones are below 256 and its tally below 65,536 (`AllFramed`), and a run of bytes holds bytes (`Bytes`), as their types in code have it.
+-- A link's bones are below 256 and its tally below 65,536 (`AllInFrames`), and a run of bytes holds bytes (`Bytes`), as their types in code have it.
 -- Assumes nothing.
 use Prim.Native.Nat.{ℕ, _+_, _*_, _/_, _≤_}
 use mathlib.Core.Path.{_≡_, sym, _∙_}
@@ -19,7 +19,7 @@ use Rattle.texts.specs.declared.Written.the-variants.{Wrote}
 use Rattle.texts.specs.Lines.{linesOf}
 use Rattle.texts.specs.Reader.{linksIn, entriesIn, bonesIn, thresholdIn, readerRows, Reads}
 use Rattle.texts.specs.Writing.{Writes}
-use Rattle.texts.specs.Inputs.{AllFramed, inputText, inputRows}
+use Rattle.texts.specs.Inputs.{AllInFrames, inputText, inputRows}
 use Rattle.texts.specs.Writers.{resultText, unnoted}
 use Rattle.texts.specs.Steps.{inputSize, resultSize}
 use Rattle.meaning.specs.Bytes.{Bytes}
@@ -29,7 +29,7 @@ use Rattle.texts.proofs.RoundTripRead.{text-back}
 use Rattle.texts.proofs.RoundTripCalls.{lines-accepted, write-read, read-write}
 
 -- what the input writer writes, the reader reads back as the same n, k, links and cuts
-pub written-then-read : (n k : ℕ) (links : List Link) (bytes room room′ : List ℕ) (count : ℕ) → AllFramed links → Bytes bytes
+pub written-then-read : (n k : ℕ) (links : List Link) (bytes room room′ : List ℕ) (count : ℕ) → AllInFrames links → Bytes bytes
     → Writes (first (inputRows n k links bytes (length room))) (inputText n k links bytes) room room′ (Wrote count)
     → (linkSpace linkSpace′ : List Link) (space space′ : List ℕ) (r : Reading)
     → length links ≤ length linkSpace

@@ -13,7 +13,7 @@ use lib.Seq.{take-all}
 use Rattle.meaning.proofs.Tests.{both, is-true, fails, eq→eqb}
 use Rattle.frames.specs.Frame.{payloads, isKind, byteSum, isHex, bytesOf}
 use Rattle.frames.specs.Characters.{pairOf, kindOf, feedAt}
-use Rattle.texts.specs.Walk.{byteAt, digitsAt, sizeAt, Well, SizeFound, Summed, Found}
+use Rattle.texts.specs.Walk.{byteAt, digitsAt, sizeAt, Well, SizeFound, Summed, FrameFound}
 use Rattle.frames.proofs.Frames.{chosen, pair-bound, sum-snoc, sum-bound}
 use Rattle.frames.proofs.Characters.{kind-bounds, bounds-kind, feed-told}
 use Rattle.texts.proofs.Lines.{bytesOf-snoc, hex-snoc, hex-at, pair-digits-at, pair-byte-at, byteAt-bound}
@@ -175,7 +175,7 @@ module _ (text : List ℕ) (at kind : ℕ) (e : kind ≡ kindOf (getD text at 0)
       }
 
 -- the frame at a place, from its size, its sum and its kind
-pub no-frame : (cs : List ℕ) → (Well cs → ⊥) → Found cs (record { size = 0; kind = 0; sum = 0 })
+pub no-frame : (cs : List ℕ) → (Well cs → ⊥) → FrameFound cs (record { size = 0; kind = 0; sum = 0 })
 no-frame cs f =
     record {
       none = λ e. f;
@@ -199,7 +199,7 @@ frame-well cs size r h f s under =
     }
 
 pub frame-found : (cs : List ℕ) (size kind r : ℕ) → 0 < size → SizeFound cs size → Summed cs size r → r < 256 → kind ≡ byteAt cs 0
-    → Found cs (record { size = size; kind = kind; sum = r })
+    → FrameFound cs (record { size = size; kind = kind; sum = r })
 frame-found cs size kind r h f s under e =
     record {
       none = λ z. absurd (omega arith);

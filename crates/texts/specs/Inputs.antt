@@ -14,14 +14,14 @@ use Rattle.texts.specs.Kinds.{headLine, linkLines, cutLines, closeLine}
 use Rattle.texts.specs.Writing.{textRow, Writes}
 
 -- a link that its frame holds, as the types of its parts in code have it; and so each link of a list
-pub record Framed (l : Link) : Type 0 where
+pub record InFrame (l : Link) : Type 0 where
   pub first-end : l .a < 256
   pub second-end : l .b < 256
   pub traits : l .tally < 65536
 
-abbrev pub AllFramed : List Link → Type 0
-AllFramed [] = Unit {0}
-AllFramed (l ∷ ls) = Framed l × AllFramed ls
+abbrev pub AllInFrames : List Link → Type 0
+AllInFrames [] = Unit {0}
+AllInFrames (l ∷ ls) = InFrame l × AllInFrames ls
 
 -- an input text: head, links, cuts, close
 unfoldable pub inputText : ℕ → ℕ → List Link → List ℕ → List ℕ

@@ -19,7 +19,7 @@ use Rattle.frames.specs.Frame.{byteSum, bytesOf, wellFormed}
 use Rattle.frames.specs.Stages.{follows}
 use Rattle.texts.specs.Lines.{Line, linesOf, lineRows}
 use Rattle.texts.specs.Reader.{linksIn, entriesIn, bonesIn, thresholdIn}
-use Rattle.texts.specs.Walk.{byteAt, sizeAt, Well, Found}
+use Rattle.texts.specs.Walk.{byteAt, sizeAt, Well, FrameFound}
 
 -- rows 16 to 19 pass the frame at the front
 pub record Passes (cs : List ℕ) (stage : Stage) (line : ℕ) : Type 0 where
@@ -61,7 +61,7 @@ pub record Bounded (text : List ℕ) (s : Progress) : Type 0 where
 pub record Ready (text : List ℕ) (s : Progress) (f : Frame) : Type 0 where
   pub small : Bounded text s
   pub some : 0 < f .size
-  pub found : Found (drop (s .at) text) f
+  pub found : FrameFound (drop (s .at) text) f
   pub passes : Passes (drop (s .at) text) (s .stage) (s .line)
 
 pub record Advanced (text : List ℕ) (s s′ : Progress) : Type 0 where

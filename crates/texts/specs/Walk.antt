@@ -43,7 +43,7 @@ pub record Summed (cs : List ℕ) (size r : ℕ) : Type 0 where
   pub sum : r < 256 → r ≡ byteSum (bytesOf (take (2 * size) cs))
 
 -- the frame at the front, if there is one
-pub record Found (cs : List ℕ) (f : Frame) : Type 0 where
+pub record FrameFound (cs : List ℕ) (f : Frame) : Type 0 where
   pub none : f .size ≡ 0 → Well cs → ⊥
   pub well : 0 < f .size → Well cs
   pub size : 0 < f .size → f .size ≡ sizeAt cs

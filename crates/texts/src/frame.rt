@@ -3,7 +3,7 @@ ghost use mathlib.Core.Path.{_≡_};
 ghost use Prim.Native.Nat.{_+_, _*_, _≤_, _<_};
 ghost use lib.Dec.{T};
 ghost use lib.ListN.{length, drop};
-ghost use Rattle.texts.specs.Walk.{byteAt, digitsAt, Well, Found, SizeFound, Summed};
+ghost use Rattle.texts.specs.Walk.{byteAt, digitsAt, Well, FrameFound, SizeFound, Summed};
 use frames::digits::as_number;
 use frames::digits::kind_of;
 use frames::digits::pair;
@@ -76,7 +76,7 @@ fn sum_at(text: &[u8], at: usize, size: usize) -> usize
 // The frame at a place of a text.
 pub(crate) fn frame_at(text: &[u8], at: usize) -> Frame
     requires { ⌜ at < length (now text) ⌝ }
-    ensures { λ r. ⌜ Found (drop at (now (text .entry))) r ⌝ }
+    ensures { λ r. ⌜ FrameFound (drop at (now (text .entry))) r ⌝ }
 {
     let size = size_at(text, at);
     if size == 0 {

@@ -6,7 +6,7 @@ ghost use Rattle.meaning.specs.Judge.{first};
 ghost use Rattle.frames.specs.declared.stage.Stage.the-variants.{Opening};
 ghost use Rattle.texts.specs.Lines.{linesOf, lineRows};
 ghost use Rattle.texts.specs.Reader.{read, readerRows};
-ghost use Rattle.texts.specs.Walk.{Found};
+ghost use Rattle.texts.specs.Walk.{FrameFound};
 ghost use Rattle.texts.specs.Judging.{LineJudged, Ready, Advanced};
 use crate::Reading;
 use crate::frame::Frame;
@@ -16,7 +16,7 @@ use frames::stage::Stage;
 
 // The first of the rows 16 to 19 that refuses the line at a place, or nought.
 fn line_row(text: &[u8], at: usize, f: Frame, stage: Stage, line: u32) -> u32
-    requires { ⌜ (at < length (now text)) × Found (drop at (now text)) f ⌝ }
+    requires { ⌜ (at < length (now text)) × FrameFound (drop at (now text)) f ⌝ }
     ensures { λ r. ⌜ LineJudged (drop at (now (text .entry))) stage line r ⌝ }
 {
     if f.size == 0 {

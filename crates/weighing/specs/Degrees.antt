@@ -54,6 +54,9 @@ pub record Lessened (less : ℕ → ℕ) (before after : List ℕ) : Type 0 wher
   pub notes : Notes after
   pub each : (b : ℕ) → (getD after b 0 + less b) % 2 ^ 32 ≡ getD before b 0
 
+abbrev pub Loses : (ℕ → ℕ) → List ℕ → List ℕ → Type 0
+Loses less before after = Notes before → Lessened less before after
+
 -- the pile of bone u stands and has another bone
 unfoldable pub joined : ℕ → Heap → ℕ → Bool
 joined n h u = ltb u n && (stands n h (h u) && some n (mate h u))

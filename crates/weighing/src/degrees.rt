@@ -13,7 +13,7 @@ ghost use Rattle.meaning.specs.Count.{some};
 ghost use Rattle.meaning.specs.Heap.{pile};
 ghost use Rattle.links.specs.Table.{held};
 ghost use Rattle.weighing.specs.Side.{heapOf, sideOf};
-ghost use Rattle.weighing.specs.Degrees.{others, mate, toward, Noted, Notes, share, parting, lost, Lessened, joined, loose, moves, Loosed, without};
+ghost use Rattle.weighing.specs.Degrees.{others, mate, toward, Noted, share, parting, lost, Loses, joined, loose, moves, Loosed, without};
 
 fn at_most_128(n: usize) -> usize
     ensures { λ r. ⌜ (r ≡ min n 128) × (r ≤ 128) ⌝ }
@@ -95,7 +95,7 @@ fn take_out(
 ) -> u64
     requires { ⌜ (n ≤ 128) × (b < 128) ⌝ }
     ensures { λ r. ⌜ r ≡ toward n (held (now (table .entry))) (others (heapOf (now (names .entry))) name b) b ⌝ }
-    ensures { λ _. ⌜ (Notes (now (degrees .entry)) → Lessened (share n (held (now (table .entry))) (others (heapOf (now (names .entry))) name b) b) (now (degrees .entry)) (now (degrees .exit))) ⌝ }
+    ensures { λ _. ⌜ Loses (share n (held (now (table .entry))) (others (heapOf (now (names .entry))) name b) b) (now (degrees .entry)) (now (degrees .exit)) ⌝ }
 {
     let mut total: u64 = 0;
     for c in 0..n {
@@ -116,7 +116,7 @@ fn part(
     degrees: &mut [u32; 128],
 )
     requires { ⌜ (n ≤ 128) × (b < 128) ⌝ }
-    ensures { λ _. ⌜ (Notes (now (degrees .entry)) → Lessened (parting n (held (now (table .entry))) (others (heapOf (now (names .entry))) y b) b) (now (degrees .entry)) (now (degrees .exit))) ⌝ }
+    ensures { λ _. ⌜ Loses (parting n (held (now (table .entry))) (others (heapOf (now (names .entry))) y b) b) (now (degrees .entry)) (now (degrees .exit)) ⌝ }
 {
     let own = take_out(table, names, n, y, b, degrees) % 4294967296;
     degrees[b] = std::num::wrapping_sub_u32(degrees[b], own as u32);
@@ -131,7 +131,7 @@ fn leave_from(
     y: u8,
     degrees: &mut [u32; 128],
 )
-    ensures { λ _. ⌜ (Notes (now (degrees .entry)) → Lessened (lost (min n 128) (held (now (table .entry))) (heapOf (now (names .entry))) x y) (now (degrees .entry)) (now (degrees .exit))) ⌝ }
+    ensures { λ _. ⌜ Loses (lost (min n 128) (held (now (table .entry))) (heapOf (now (names .entry))) x y) (now (degrees .entry)) (now (degrees .exit)) ⌝ }
 {
     let bones = at_most_128(n);
     for b in 0..bones {
@@ -162,7 +162,7 @@ pub fn leave(
     y: u8,
     degrees: &mut [u32; 128],
 )
-    ensures { λ _. ⌜ (Notes (now (degrees .entry)) → Lessened (lost (min n 128) (held (now (table .entry))) (heapOf (now (names .entry))) x y) (now (degrees .entry)) (now (degrees .exit))) ⌝ }
+    ensures { λ _. ⌜ Loses (lost (min n 128) (held (now (table .entry))) (heapOf (now (names .entry))) x y) (now (degrees .entry)) (now (degrees .exit)) ⌝ }
 {
     if size(names, n, y) < size(names, n, x) {
         leave_from(table, names, n, y, x, degrees);
@@ -229,7 +229,7 @@ pub fn lone(
 ) -> Split
     ensures { λ r. ⌜ r .light ≡ loose (min n 128) (held (now (table .entry))) k (heapOf (now (names .entry))) u ⌝ }
     ensures { λ r. ⌜ Loosed (min n 128) (held (now (table .entry))) k (heapOf (now (names .entry))) u r (r .light) ⌝ }
-    ensures { λ _. ⌜ (Notes (now (degrees .entry)) → Lessened (without (min n 128) (held (now (table .entry))) (heapOf (now (names .entry))) u) (now (degrees .entry)) (now (degrees .exit))) ⌝ }
+    ensures { λ _. ⌜ Loses (without (min n 128) (held (now (table .entry))) (heapOf (now (names .entry))) u) (now (degrees .entry)) (now (degrees .exit)) ⌝ }
 {
     let bones = at_most_128(n);
     if has_mates(names, bones, u) {
