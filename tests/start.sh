@@ -1,22 +1,22 @@
-# Sourced by ./bones, ./thin and ./libbones, which stand beside each other at the root: how a program is proved, built and started, and the archive for C built.
+# Sourced by ./bones, ./thin and ./libbones (and, for `below`, by compare/wrong), which stand beside each other at the root: how a program is proved, built and started, and the archive for C built.
 . tests/toolchain.sh
 
-# parts NAME: how many crates are proved for a program, itself among them
-parts() {
+# below NAME: the crates of crates.txt that a crate is made of, itself among them
+below() {
   awk -F '[: ]+' -v name="$1" '!/^#/ { for (i = 2; i <= NF; i++) names[$1] = names[$1] " " $i; known[$1] = 1 }
-    function visit(one, i, count, below) {
+    function visit(one, i, count, parts) {
       if (!(one in known) || one in seen) return
       seen[one] = 1
-      count = split(names[one], below, " ")
-      for (i = 1; i <= count; i++) visit(below[i])
+      count = split(names[one], parts, " ")
+      for (i = 1; i <= count; i++) visit(parts[i])
     }
-    END { visit(name); for (one in seen) count++; print count }' crates.txt
+    END { visit(name); for (one in seen) print one }' crates.txt
 }
 
 # progress NAME: of what rt says, a line for each crate that it has proved anew; nothing where all of them were proved before
 progress() {
   local all line count=0
-  all=$(parts "$1")
+  all=$(below "$1" | wc -l)
   while read -r line; do
     case $line in 'rt: '*' proved ('*) ;; *) continue ;; esac
     count=$((count + 1))
