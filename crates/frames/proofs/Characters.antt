@@ -1,6 +1,6 @@
 -- Laws of a frame's kind and of its line feed, as they are looked at: the kind that two characters mean, its payload, and the feed behind so many bytes.
 -- Assumes nothing.
-use Rattle.std.proofs.Common.{◌≡◌, ℕ, zero, suc, ◌-◌, ◌*◌, ◌<◌, ◌≤◌, Bool, true, false, ◌&&◌, T, eqb, ltb, leb, List, [], ◌∷◌, length, get_or, sym, refl, ◌∙◌, ⊎_elim, zero-le, eq-or-lt_of_le, arith, le→leb, eqb→eq, ltb→lt, lt→ltb, leb→le, T_not, le-ltb, lt-ltb}
+use Rattle.std.proofs.Common.{◌≡◌, ℕ, zero, suc, ◌*◌, ◌<◌, ◌≤◌, Bool, true, false, ◌&&◌, T, eqb, ltb, leb, List, [], ◌∷◌, length, get_or, sym, refl, ◌∙◌, ⊎_elim, zero-le, eq-or-lt_of_le, arith, le→leb, eqb→eq, ltb→lt, lt→ltb, leb→le, T_not, le-ltb, lt-ltb}
 use Rattle.meaning.proofs.Tests.{both, left_of, right_of}
 use Rattle.frames.specs.Frame.{payloads, is_kind}
 use Rattle.frames.specs.Characters.{pair_of, kind_of, feed_at}

@@ -1,6 +1,6 @@
 -- What is written in bytes has no characters but digits and line feeds.
 -- Assumes nothing.
-use Rattle.std.proofs.Common.{ℕ, suc, ◌+◌, ◌/◌, ◌%◌, ◌<◌, ◌≤◌, ◌&&◌, ◌||◌, T, eqb, ltb, leb, List, [], ◌∷◌, ◌++◌, ⊎_elim, arith, le→leb, ltb→lt, nltb→le}
+use Rattle.std.proofs.Common.{ℕ, suc, ◌/◌, ◌%◌, ◌<◌, ◌≤◌, ◌&&◌, ◌||◌, T, eqb, ltb, leb, List, [], ◌∷◌, ◌++◌, ⊎_elim, arith, le→leb, ltb→lt, nltb→le}
 use Rattle.meaning.specs.Bytes.{Bytes}
 use Rattle.meaning.proofs.Tests.{both, left_of, right_of, or_left, or_right, decide}
 use Rattle.frames.specs.Frame.{digit, hex, line, letter, lettered}

@@ -5,7 +5,7 @@ ghost use Rattle.frames.specs.Step.{Stands, Stepped};
 use crate::stage::Stage;
 
 // How far judging has come: the place in the text, the line, the stage, the head's numbers, and the links and cuts so far.
-#[derive(Drop)]
+#[derive(Clone, Copy)]
 pub struct Progress {
     pub at: usize,
     pub line: u32,

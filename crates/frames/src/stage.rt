@@ -4,7 +4,7 @@ ghost use Rattle.frames.specs.declared.stage.Stage.TheVariants.{Cutting};
 ghost use Rattle.frames.specs.Stages.{follows, open_at};
 
 // Nothing yet; after the head; after the first cut; after the close.
-#[derive(Drop)]
+#[derive(Clone, Copy)]
 pub enum Stage {
     Opening,
     Linking,

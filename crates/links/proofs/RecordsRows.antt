@@ -7,7 +7,7 @@ use Rattle.meaning.specs.declared.Judged.TheVariants.{Accepted, Refused}
 use Rattle.meaning.specs.Judge.{first}
 use Rattle.links.specs.Links.{link_rows, links_rows, count_rows, table_rows}
 use Rattle.links.proofs.LinksRows.{Counted, counts_accepted, counts_place, table_next, table_stop}
-use Rattle.links.specs.Table.{added, taken, filled}
+use Rattle.links.specs.Table.{taken, filled}
 use Rattle.links.proofs.TableAdds.{Taken, taken_none, taken_next, taken-stop, taken_all, filled_none}
 use Rattle.links.specs.Records.{no_link, up_to}
 

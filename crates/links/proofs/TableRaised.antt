@@ -1,6 +1,6 @@
 -- What a table holds after a pair's tally was raised or lowered, and when two tables are the same.
 -- Assumes nothing.
-use Rattle.std.proofs.Common.{◌≡◌, ℕ, ◌+◌, ◌-◌, ◌/◌, ◌%◌, ◌^◌, ◌<◌, leb, List, length, get_or, sym, ◌∙◌, subst, ⊎_elim, arith, leb→le, length-set, get_or-set_other, get_or-set_same, ext_get_or}
+use Rattle.std.proofs.Common.{◌≡◌, ℕ, ◌+◌, ◌/◌, ◌%◌, ◌^◌, ◌<◌, leb, List, length, get_or, sym, ◌∙◌, subst, ⊎_elim, arith, leb→le, length-set, get_or-set_other, get_or-set_same, ext_get_or}
 use lib.Dec.{nleb→lt}
 use Rattle.meaning.proofs.Tests.{decide}
 use Rattle.links.specs.Table.{spot, held, raised}

@@ -1,4 +1,6 @@
 // Links: rows 1 to 6, links lent as bytes and as records, and the pair table that they fill.
+#![tactic(auto)]
+
 pub mod judge;
 pub mod numbers;
 pub mod record;

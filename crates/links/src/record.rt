@@ -1,5 +1,4 @@
-// One link record of a run of them: read, stored, and held against labels. The borrow checker covers no slice of structs, so what takes one is proved by
-// hand.
+// One link record of a run of them: read, stored, and held against labels.
 ghost use Rattle.std.specs.Prelude.{◌≡◌, slice_index_or, slice_set};
 ghost use Rattle.links.specs.Records.{no_link, same_label};
 

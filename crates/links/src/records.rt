@@ -1,10 +1,10 @@
-// Links lent as a run of link records, read and written where they stand. The borrow checker covers no slice of structs, so each function that
-// takes one is proved by hand: they are few, and leave the work to functions on one link, on numbers and on the table.
-ghost use Rattle.std.specs.Prelude.{◌≡◌, ◌<◌, ◌≤◌, true};
+// Links lent as a run of link records, read and written where they stand, by functions on one link, on numbers and on the table.
+ghost use Rattle.std.specs.Prelude.{◌≡◌, ◌<◌, ◌≤◌, ◌^◌, true, slice_index_or, EachIndex};
+ghost use Rattle.meaning.specs.declared.Judged.TheVariants.{Accepted};
 ghost use Rattle.meaning.specs.Judge.{first};
 ghost use Rattle.links.specs.Links.{link_rows, table_rows};
 ghost use Rattle.links.specs.Table.{taken, filled};
-ghost use Rattle.links.specs.Records.{up_to, KeepsLinks};
+ghost use Rattle.links.specs.Records.{no_link, up_to, KeepsLinks};
 
 use crate::judge::{judge_counts, judge_link};
 use crate::record::{link_at, same_label, store_link};
@@ -38,9 +38,11 @@ pub(crate) fn take_record(n: u64, l: Link, i: usize, table: &mut [u32; 16384]) -
     }
 }
 
-// Judges n, k and links lent as records, and adds the links to the table, as far as they are accepted.
+// Judges n, k and links lent as records, and adds the links to the table, as far as they are accepted. Who lends the links learns that their tallies have
+// 16 bits, as their type says: so the tallies of the table do not wrap.
 pub fn fill_records(n: u64, k: u64, links: &[Link], table: &mut [u32; 16384]) -> Judged
-    ensures { (result ≡ first (table_rows n k true links.now)) × (table.new ≡ filled result table.old links.now) }
+    ensures taken { (result ≡ first (table_rows n k true links.now)) × (table.new ≡ filled result table.old links.now) }
+    ensures tallies { result ≡ Accepted → EachIndex links.now (λ i. (slice_index_or links.now i no_link).tally < 2 ^ 16) }
 {
     let mut judged = judge_counts(n, k, true, links.len());
     let mut count = up_to(judged, links.len());

@@ -75,6 +75,7 @@ pub record Fresh (G R : Bones) (a b : ℕ) : Type 0 where
 
 -- one of two tests passes, or none does
 by_tests : (p q : Bool) (x y : ℕ) {z w : ℕ} → T (not (p && q)) → (T p → z ≡ w + x) → (T q → z ≡ w + y) → (T (not p) → T (not q) → z ≡ w) → z ≡ w + cond p x 0 + cond q y 0
+by_tests true true x y {z = z} {w = w} n f g h = elim n [ ]
 by_tests true false x y n f g h = omega (arith, f tt)
 by_tests false true x y n f g h = omega (arith, g tt)
 by_tests false false x y n f g h = omega (arith, h tt tt)

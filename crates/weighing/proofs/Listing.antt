@@ -39,6 +39,8 @@ cond_plus false x y = refl
 pub beq_same : (a b : Bool) → T (beq a b) → a ≡ b
 beq_same true true t = refl
 beq_same false false t = refl
+beq_same false true t = elim t [ ]
+beq_same true false t = elim t [ ]
 
 pub eqb_turn : (a b : ℕ) → eqb a b ≡ eqb b a
 eqb_turn a b = same_test _ _ (λ t. eq→eqb b a (sym (eqb→eq a b t))) (λ t. eq→eqb a b (sym (eqb→eq b a t)))

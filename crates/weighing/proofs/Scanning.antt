@@ -4,7 +4,7 @@ use Rattle.std.proofs.Common.{◌≡◌, ℕ, ◌+◌, ◌-◌, ◌*◌, ◌^◌
 use mathlib.Core.Bool.{or-false}
 use native.Mathlib.Decide.{ℕ_discrete}
 use lib.ListN.{length-replicate}
-use Rattle.meaning.specs.Count.{Bones, sum, some}
+use Rattle.meaning.specs.Count.{Bones, sum}
 use Rattle.meaning.specs.Tally.{Tally}
 use Rattle.meaning.proofs.Tests.{left_of}
 use Rattle.meaning.proofs.Sums.{sum_next, sum_ext, cond_same}

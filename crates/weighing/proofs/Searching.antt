@@ -104,7 +104,7 @@ pub record Light (n k : ℕ) (w : Tally) (S d : Bones) (weighs : ℕ) : Type 0 w
   pub is_light : weighs < k
   pub parts : T (splits n S d)
 
-merges_on : {list into start : List ℕ} {hi mid lo : ℕ} {t t₁ t₂ : List ℕ} → Merges list into start hi t mid t₁ → Merges list into start mid t₁ lo t₂ → Merges list into start hi t lo t₂
+merges_on : {list into start : List ℕ} {hi mid : ℕ} {t t₁ : List ℕ} {lo : ℕ} {t₂ : List ℕ} → Merges list into start hi t mid t₁ → Merges list into start mid t₁ lo t₂ → Merges list into start hi t lo t₂
 merges_on m none = m
 merges_on m (more n row) = more (merges_on m n) row
 
@@ -213,7 +213,7 @@ module _ {k : ℕ} {t₀ t list into start : List ℕ} {count size : ℕ} (s : B
             }))
 
         -- what was merged before is merged as the lists stand now
-        merges_along : {j : ℕ} {t t' : List ℕ} → count ≤ j → Merges list into start size t j t' → Merges list' into' start' size t j t'
+        merges_along : {t : List ℕ} {j : ℕ} {t' : List ℕ} → count ≤ j → Merges list into start size t j t' → Merges list' into' start' size t j t'
         merges_along h none = none
         merges_along h (more {lo = j} {t'' = t₂} m row) =
             more {t'' = t₂} (merges_along (omega arith) m)

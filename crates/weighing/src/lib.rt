@@ -1,4 +1,6 @@
 // Weighing: the weight of a side, degrees, and the search for a light split.
+#![tactic(auto)]
+
 pub mod degrees;
 mod list;
 mod merge;

@@ -10,7 +10,7 @@ use links::numbers::bone;
 use links::table::tally_between;
 
 // A place whose bone has the greatest tally to the bones taken, that tally, and the sum of these tallies.
-#[derive(Drop)]
+#[derive(Clone, Copy)]
 pub(crate) struct Best {
     pub(crate) place: usize,
     pub(crate) top: u64,
@@ -78,7 +78,7 @@ fn mark(k: u64, top: u64) -> u8
 }
 
 // What a pass finds: whether there is a light split, its weight, and in how many places of the order its side stands.
-#[derive(Drop)]
+#[derive(Clone, Copy)]
 pub(crate) struct Pass {
     pub(crate) light: bool,
     pub(crate) weight: u64,

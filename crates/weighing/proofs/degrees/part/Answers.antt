@@ -1,0 +1,12 @@
+-- `weighing::degrees::part` meets its contract: what b loses is what it takes out of the others. Assumes nothing.
+use Rattle.std.proofs.Common.{arith}
+use Rattle.weighing.specs.Degrees.{parting}
+use Rattle.weighing.proofs.Noting.{less_at}
+use Rattle.weighing.proofs.degrees.part.Goals as goal
+
+pub returns : goal.returns
+unfolding parting
+returns c =
+    let t = c.take_out-own in
+    let s = c.wrapping_sub_u32 in
+    λ notes. less_at c.args.b _ s.result (omega arith) (omega (arith, s.type_inv)) (omega (arith, s.ensures.value, t.ensures.value)) (t.ensures.loses notes)

@@ -1,0 +1,10 @@
+use Rattle.std.proofs.Common.{◌-◌, ◌≤◌}
+use Rattle.weighing.specs.Lists.{listed}
+use Rattle.weighing.specs.Merge.{but_for, RowTaken}
+use Rattle.weighing.proofs.merge.take_row.Given as goal
+
+abbrev pub invariant-loop-i : goal.invariant-loop-i
+invariant-loop-i l = (l.i ≤ l.m) × RowTaken l.initial.table l.table l.a l.b (but_for (listed l.list l.i) l.a)
+
+abbrev pub decreases-loop-i : goal.decreases-loop-i
+decreases-loop-i l = l.m - l.i
