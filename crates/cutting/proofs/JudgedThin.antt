@@ -64,7 +64,7 @@ module _ (n k : ℕ) (links : List Link) (j : Judged) (judged : j ≡ first (tab
       go (Refused number place) e t = thins_refused (λ ls. ls) _ n _ k links space number place e
 
   module _ (accepted : r ≡ Accepted) where
-    judged_both : (j ≡ Accepted) × (first (link_row (length links) (length space) ∷ []) ≡ Accepted)
+    pub judged_both : (j ≡ Accepted) × (first (link_row (length links) (length space) ∷ []) ≡ Accepted)
     judged_both = first_of-two j (link_row (length links) (length space)) (sym rows ∙ accepted)
 
     table_accepted : first (table_rows n k true links) ≡ Accepted

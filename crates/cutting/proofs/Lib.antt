@@ -23,5 +23,3 @@ pub mod Unique
 pub mod Labelling
 pub mod Keeping
 pub mod JudgedThin
-pub mod RecordsLabels
-pub mod RecordsThin

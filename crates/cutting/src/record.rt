@@ -6,13 +6,13 @@ ghost use Rattle.cutting.specs.Record.{entry_size, head_bytes, entry_at, entry_p
 use crate::numbers::{less, lesser};
 
 // So many entries, from the start of a run of bytes.
-#[derive(Drop)]
+#[derive(Clone, Copy)]
 pub struct Record {
     pub cuts: usize,
 }
 
 // One entry: the pile's name, the weight, and the moved side.
-#[derive(Drop)]
+#[derive(Clone, Copy)]
 pub struct Entry {
     pub pile: u8,
     pub weight: u32,

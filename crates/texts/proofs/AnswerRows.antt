@@ -17,17 +17,13 @@ use denote.Lowered.{Lowered}
 use denote.Laws.{Is, Tells, Typed, Lawful, Makes}
 use denote.Builtin.{unit}
 use denote.Enum.Laws as EL
-use Rattle.cutting.specs.declared.Answer.{Answer}
 use Rattle.cutting.specs.declared.Answer.TheVariants.{Gave, Refused as Refused·answer}
-use Rattle.cutting.specs.declared.Thinned.{Thinned}
 use Rattle.cutting.specs.declared.Thinned.TheVariants.{Kept, Refused as Refused·thinned}
 use Rattle.cutting.specs.contracts.Answer as Ans
 use Rattle.cutting.proofs.Answer.TheLaws as Ans'
 use Rattle.cutting.specs.contracts.Thinned as Thn
 use Rattle.cutting.proofs.Thinned.TheLaws as Thn'
-use Rattle.texts.specs.declared.Reading.{Reading}
 use Rattle.texts.specs.declared.Reading.TheVariants.{Got, Refused as Refused·reading}
-use Rattle.texts.specs.declared.Written.{Written}
 use Rattle.texts.specs.contracts.Reading as Rd
 use Rattle.texts.proofs.Reading.TheLaws as Rd'
 use Rattle.texts.specs.contracts.Written as Wr

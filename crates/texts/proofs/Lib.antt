@@ -15,8 +15,6 @@ pub mod Fronts
 -- The laws about writing an input text.
 pub mod WritesRows
 pub mod WritesLinks
-pub mod WritesLent
-pub mod WritesRecord
 pub mod WritesInput
 -- The laws about writing a result text, and the theorems about texts.
 pub mod WritesTexts

@@ -1,7 +1,7 @@
 -- The theorems about texts, over all inputs, each closed by a citation.
 -- A link's bones are below 256 and its tally below 65,536 (`AllInFrames`), and a run of bytes holds bytes (`Bytes`), as their types in code have it.
 -- Assumes nothing.
-use Prim.Native.Nat.{ℕ, ◌+◌, ◌*◌, ◌/◌, ◌≤◌}
+use Prim.Native.Nat.{ℕ, ◌*◌, ◌/◌, ◌≤◌}
 use mathlib.Core.Path.{◌≡◌, sym, ◌∙◌}
 use mathlib.Core.List.{List}
 use lib.Dec.{T}

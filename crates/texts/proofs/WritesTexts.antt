@@ -1,6 +1,6 @@
 -- A result text: its length, and its lines one behind the other.
 -- Assumes nothing.
-use Prim.Native.Nat.{ℕ, ◌+◌, ◌*◌, ◌/◌, ◌≤◌, min}
+use Prim.Native.Nat.{ℕ, ◌+◌, ◌/◌, ◌≤◌, min}
 use mathlib.Core.Path.{◌≡◌, ap, subst, ◌∙◌}
 use mathlib.Core.List.{List, ◌++◌}
 use native.Mathlib.Omega.{arith}

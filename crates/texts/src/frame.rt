@@ -6,7 +6,7 @@ use frames::digits::{as_number, kind_of, pair, value};
 use frames::frame::{add_byte, feed_at, payload};
 
 // The frame at a place of a text: how many bytes it has, its kind and the sum of its bytes. No well formed line there: the size is nought.
-#[derive(Drop)]
+#[derive(Clone, Copy)]
 pub(crate) struct Frame {
     pub size: usize,
     pub kind: usize,

@@ -1,4 +1,6 @@
 // Texts: the reader, and the writers of input texts, of result texts and of refusals.
+#![tactic(auto)]
+
 use frames::frame::{CLOSE_LINE, CUT_LINE, HEAD_LINE, LABEL_LINE};
 
 mod frame;
@@ -11,7 +13,7 @@ pub mod result;
 mod store;
 
 // What the reader answers: a refusal of the table with its place, or the head's two numbers and how many links and cuts were read.
-#[derive(Drop)]
+#[derive(Clone, Copy)]
 pub enum Reading {
     Refused {
         number: u32,
@@ -26,7 +28,7 @@ pub enum Reading {
 }
 
 // What a writer answers: a refusal of the table with its place, or the number of bytes written.
-#[derive(Drop)]
+#[derive(Clone, Copy)]
 pub enum Written {
     Refused { number: u32, place: u32 },
     Wrote { count: u32 },
