@@ -24,8 +24,9 @@ use Rattle.cutting.specs.Rows.{label_row, space_row, link_row, grouping_rows, th
 use Rattle.cutting.proofs.Cuts.{length_cuts}
 use Rattle.frames.specs.declared.stage.Stage.{Stage}
 use Rattle.frames.specs.declared.stage.Stage.TheVariants.{Opening}
+use Rattle.frames.specs.Stages.{after}
 use Rattle.frames.specs.Frame.{well_formed, is_hex, is_kind, bytes_of}
-use Rattle.texts.specs.Lines.{Line, before, lines_of, line_rows}
+use Rattle.texts.specs.Lines.{Line, before, kind, lines_of, line_rows}
 use Rattle.texts.specs.Reader.{reader_rows}
 use Rattle.answering.specs.Steps.{Framed}
 
@@ -108,7 +109,7 @@ lines_fit stage i (l ∷ ls) h =
     row_fits _ 16 i _ (lit< tt, omega arith) (λ _.
     row_fits _ 17 i _ (lit< tt, omega arith) (λ _.
     row_fits _ 18 i _ (lit< tt, omega arith) (λ _.
-    row_fits _ 19 i _ (lit< tt, omega arith) (λ _. lines_fit _ (suc i) ls (omega arith)))))
+    row_fits _ 19 i _ (lit< tt, omega arith) (λ _. lines_fit (after stage (kind l)) (suc i) ls (omega arith)))))
 
 -- a text has at most as many lines as characters
 before_most : (c : ℕ) (ls : List Line) (m : ℕ) → 0 < m → length ls ≤ m → length (before c ls) ≤ m

@@ -5,9 +5,6 @@ pub mod AfterRead
 pub mod AfterReadThin
 pub mod AfterThin
 pub mod Spaces
-pub mod ReadCall
-pub mod Program
-pub mod Calls
 pub mod Theorems
 pub mod ThinTheorems
 pub mod Letters

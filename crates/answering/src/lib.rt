@@ -1,9 +1,12 @@
 // What each program does, in one function from bytes to bytes. Here that of `bones`: an input text is read, its bones are grouped, and the result text is
 // written; or the first refusal's frame, alone. The functions over link records are proved by hand, so each only lends, and goes by one answer; numbers are
 // left to covered ones.
+#![tactic(auto)]
+
 pub mod thin;
 
 ghost use Rattle.std.specs.Prelude.{length};
+ghost use Rattle.meaning.specs.Bytes.{Bytes};
 ghost use Rattle.meaning.specs.Judge.{first};
 ghost use Rattle.texts.specs.Writing.{Refuses};
 ghost use Rattle.answering.specs.Prints.{grouped_rows, Answers, Answering};
@@ -36,7 +39,8 @@ fn after_grouping(
     out: &mut [u8],
 ) -> Written
     requires { RecordHeld grouped (length space.now) }
-    ensures { AfterGrouping grouped n k links.now space.now out.old out.new result }
+    ensures written { AfterGrouping grouped n k links.now space.now out.old out.new result }
+    ensures are_bytes { Bytes space.now }
 {
     match grouped {
         Answer::Refused { number, place } => write_refused(number, place, out),

@@ -1,5 +1,2 @@
--- The walk of a call from C, and what the calls settle.
-pub mod Telling
-pub mod Rows
-pub mod OneRoom
+-- What the calls from C settle.
 pub mod Unique

@@ -8,7 +8,7 @@ use texts::{Reading, Written};
 // Of grouping and checking: the refusal's number, nought where nothing is refused, and its place; the number of groups or piles, and whether the run of
 // cuts is finished.
 #[repr(C)]
-#[derive(Drop)]
+#[derive(Clone, Copy)]
 pub struct Told {
     pub number: u32,
     pub place: u32,
@@ -18,7 +18,7 @@ pub struct Told {
 
 // Of thinning and the writers: the refusal, or how many links were kept, how many bytes written.
 #[repr(C)]
-#[derive(Drop)]
+#[derive(Clone, Copy)]
 pub struct ToldCount {
     pub number: u32,
     pub place: u32,
@@ -27,7 +27,7 @@ pub struct ToldCount {
 
 // Of the reader: the refusal, or the head's numbers, and how many links and cuts were read.
 #[repr(C)]
-#[derive(Drop)]
+#[derive(Clone, Copy)]
 pub struct Input {
     pub number: u32,
     pub place: u32,

@@ -2,7 +2,8 @@
 ghost use Rattle.std.specs.Prelude.{◌≡◌};
 ghost use Rattle.shell.specs.Shown.{shown};
 
-use libc::STDOUT_FILENO;
+use std::io;
+use std::io::{Stdout, Write};
 use texts::Written;
 
 // How many bytes at the front of so much space were answered, and are to be printed: none with a refusal.
@@ -21,8 +22,8 @@ pub fn to_print(answered: Written, room: usize) -> usize
     }
 }
 
-// Prints what was answered, from the space that it was written to.
-pub fn print(answered: Written, out: &[u8]) {
+// Prints what was answered, from the space that it was written to. What cannot be printed is an error.
+pub fn print(mut output: Stdout, answered: Written, out: &[u8]) -> io::Result<()> {
     let end = to_print(answered, out.len());
-    io::write_all(STDOUT_FILENO, &out[..end]);
+    output.write_all(&out[..end])
 }
