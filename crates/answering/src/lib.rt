@@ -1,6 +1,5 @@
 // What each program does, in one function from bytes to bytes. Here that of `bones`: an input text is read, its bones are grouped, and the result text is
-// written; or the first refusal's frame, alone. The functions over link records are proved by hand, so each only lends, and goes by one answer; numbers are
-// left to covered ones.
+// written; or the first refusal's frame, alone. Each function lends what the next one needs, and goes by one answer.
 #![tactic(auto)]
 
 pub mod thin;

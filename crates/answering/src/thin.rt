@@ -1,5 +1,5 @@
 // What the program `thin` does: an input text is read, its links are thinned, and an input text is written again of those that stay inside groups, without
-// cuts; or the first refusal's frame, alone. The functions are proved by hand, as those beside them are.
+// cuts; or the first refusal's frame, alone.
 ghost use Rattle.std.specs.Prelude.{length};
 ghost use Rattle.meaning.specs.Judge.{first};
 ghost use Rattle.answering.specs.ThinPrints.{thinned_rows, ThinAnswers, ThinsText};

@@ -1,5 +1,4 @@
-// The calls from C over link records: in C an array of struct bones_link, a pointer and then a number of links. They are proved by hand, so each only
-// passes on what it was lent, and tells the answer.
+// The calls from C over link records: in C an array of struct bones_link, a pointer and then a number of links.
 ghost use Rattle.std.specs.Prelude.{true};
 ghost use Rattle.cutting.specs.Calls.{Checking, Grouping, ThinningRecords};
 ghost use Rattle.calls.specs.Told.{told, told_thinned, Telling};

@@ -1,5 +1,5 @@
-// Checking, grouping and thinning with the links lent as a run of link records, read where they stand. The borrow checker covers no slice of structs,
-// so the calls are proved by hand: each fills the table and leaves the rest to functions above the filled table.
+// Checking, grouping and thinning with the links lent as a run of link records, read where they stand: each call fills the table and leaves the rest to
+// functions above the filled table.
 ghost use Rattle.std.specs.Prelude.{◌≡◌, true, [], ◌∷◌, ◌<◌, ◌^◌};
 ghost use Rattle.meaning.specs.declared.Judged.TheVariants.{Accepted};
 ghost use Rattle.meaning.specs.Judge.{first};

@@ -2,12 +2,11 @@
 pub mod LinksRows
 pub mod LinksBytes
 -- The laws of link records.
-pub mod RecordsLink
 pub mod RecordsKept
 -- The laws of the pair table.
 pub mod TableSpots
 pub mod TableAdds
 pub mod TableHeld
 pub mod TableRaised
--- The laws of link records, and the walks over a run of them.
+-- The laws of going through a run of link records.
 pub mod RecordsRows

@@ -8,7 +8,6 @@ pub mod ReadsRows
 pub mod ReadsStore
 pub mod ReadsPut
 pub mod ReadsAll
-pub mod AnswerRows
 -- The laws about lines of a kind, and about what a writer answers.
 pub mod WritesLines
 pub mod Fronts

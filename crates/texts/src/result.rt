@@ -1,5 +1,5 @@
-// The result writer: head, the record's cuts, the pile names that checking gives, close. Its links are lent as records, so the writer itself is proved by
-// hand: it checks the record, and leaves the rest to a function of what checking answered.
+// The result writer: head, the record's cuts, the pile names that checking gives, close. It checks the record, and leaves the rest to a function of what
+// checking answered.
 ghost use Rattle.std.specs.Prelude.{◌≡◌, ◌≤◌, ◌<◌, length};
 ghost use Rattle.meaning.specs.declared.Judged.TheVariants.{Accepted};
 ghost use Rattle.meaning.specs.Room.{over};

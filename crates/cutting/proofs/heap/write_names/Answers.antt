@@ -1,5 +1,5 @@
 -- `cutting::heap::write_names` meets its contract. The invariant: the names of the bones below `at` are written. Assumes nothing.
-use Prim.Native.Nat.{ℕ, zero-le, min}
+use Prim.Native.Nat.{ℕ, min}
 use mathlib.Core.Path.{◌≡◌, refl, ◌∙◌, ap, ap₂}
 use mathlib.Core.List.{List}
 use native.Mathlib.Omega.{arith}
@@ -13,7 +13,7 @@ use Rattle.cutting.proofs.heap.write_names.Goals as goal
 pub loop-at-init : goal.loop-at-init
 loop-at-init c =
     let a = c.args in
-    (zero-le, fitted_none (heap_of a.names.now) a.labels.now, refl)
+    (omega arith, fitted_none (heap_of a.names.now) a.labels.now, refl)
 
 pub name_of-requires : goal.name_of-requires
 name_of-requires c = omega (arith, c.lesser-count.ensures, c.lesser.ensures)
