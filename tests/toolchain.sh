@@ -1,16 +1,15 @@
-# Sourced: where the toolchain stands, and how a program that it built is started on this machine.
+# Sourced: where the toolchain stands, and how a program that it built is started.
 
-kit=${RATTLE_HOME:-$(dirname "$(dirname "$(readlink -f "$(command -v rt)")")")}
-own=$kit/on/$(uname -m)
-tools=$own/toolchain
+kit=$(dirname "$(dirname "$(readlink -f "$(command -v rt)")")")
+tools=$kit/toolchain
 
-# The toolchain has an emulator where the machine is no x86-64. A processor of this model has no instruction that clears memory byte by
-# byte; with one the C library clears a pair table ten times slower under the emulator.
-emulator=
-[ ! -x "$tools/bin/qemu-x86_64" ] || emulator="$tools/bin/qemu-x86_64"
+# The words before a program: the toolchain's own loader and C library.
+starter=("$tools/lib/ld-linux-x86-64.so.2" --library-path "$tools/lib")
 
-# The words before a program: the emulator, and the toolchain's own loader and C library.
-starter=(${emulator:+"$emulator" -cpu Nehalem} "$tools/lib/ld-linux-x86-64.so.2" --library-path "$tools/lib")
+# compiled SOURCE OBJECT [WORD..]: compiles C for the toolchain's processor, by its own clang, which has no headers
+compiled() {
+  "$tools/bin/clang" --target=x86_64-unknown-linux-gnu -std=gnu11 -O2 -fPIC -Wall -Wextra -Wpedantic -Werror "${@:3}" -c "$1" -o "$2"
+}
 
 # is_built FILE: whether it is a program for x86-64, as the toolchain builds them
 is_built() {

@@ -49,23 +49,43 @@ static void give(int to, const void *bytes, size_t length)
     }
 }
 
-/* Answers questions until the pipe ends. `act` reads the bytes asked, writes the answer, and gives its length. */
-static void serve(int from, int to, size_t (*act)(uint8_t *question, size_t length, uint8_t *answer))
+static size_t used;
+
+/* Takes the next question, and gives its length; whether there was one, since the pipe may end. What was answered before is written when it is asked for. */
+static int next_question(int from, int to, uint64_t *length)
 {
-    size_t used = 0;
-    uint64_t length;
-    while (take(from, &length, LENGTH)) {
-        if (length == ~(uint64_t)0) {
+    while (take(from, length, LENGTH)) {
+        if (*length == ~(uint64_t)0) {
             give(to, answered, used);
             used = 0;
             continue;
         }
-        if (length > MOST_ASKED || used + 2 * MOST_ASKED > MOST_ANSWERED || !take(from, asked, length))
+        if (*length > MOST_ASKED || used + 2 * MOST_ASKED > MOST_ANSWERED || !take(from, asked, *length))
             _exit(3);
         alarm(PATIENCE);
-        uint64_t wrote = act(asked, length, answered + used + LENGTH);
-        alarm(0);
-        memcpy(answered + used, &wrote, LENGTH);
-        used += LENGTH + wrote;
+        return 1;
     }
+    return 0;
+}
+
+/* Where the answer to that question is written, */
+static uint8_t *answer_room(void)
+{
+    return answered + used + LENGTH;
+}
+
+/* and that so many bytes of it were. */
+static void answer_ends(uint64_t wrote)
+{
+    alarm(0);
+    memcpy(answered + used, &wrote, LENGTH);
+    used += LENGTH + wrote;
+}
+
+/* Answers questions until the pipe ends. `act` reads the bytes asked, writes the answer, and gives its length. */
+static inline void serve(int from, int to, size_t (*act)(uint8_t *question, size_t length, uint8_t *answer))
+{
+    uint64_t length;
+    while (next_question(from, to, &length))
+        answer_ends(act(asked, length, answer_room()));
 }
