@@ -1,6 +1,6 @@
 // The search for a light split among the piles of a heap. Blocks of bones that no light split parts are merged in the pair table while a pile is
 // searched, and taken back out, so that a pass costs what its blocks cost and the table comes back as it was.
-ghost use Rattle.std.specs.Prelude.{◌≡◌, min, length};
+ghost use Rattle.std.specs.Prelude.{◌≡◌, min};
 ghost use Rattle.links.specs.Table.{held};
 ghost use Rattle.weighing.specs.Side.{heap_of};
 ghost use Rattle.weighing.specs.Search.{Searched, Small};
@@ -30,9 +30,8 @@ fn at_most(n: usize) -> usize
 
 // The first light split of a pile named `from` or more, in the heap that gives each of the n bones the name of its pile; or that all
 // these piles are firm. Where the tallies of the table come to 2 to the power 32 or more, which those of no list of links do, what was found is
-// not promised to be right. The table has the 16,384 tallies that its type says.
+// not promised to be right.
 pub fn search(table: &mut [u32; 16384], names: &[u8; 128], n: usize, k: u64, from: usize) -> Split
-    requires { length table.old ≡ 16384 }
     ensures table_unchanged { table.new ≡ table.old }
     ensures searched { Small (min n 128) table.old → Searched (min n 128) (held table.old) k (heap_of names.now) from result result.light }
 {

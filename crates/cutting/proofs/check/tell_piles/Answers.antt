@@ -11,9 +11,6 @@ use Rattle.cutting.specs.declared.Answer.TheVariants.{Gave}
 use Rattle.cutting.proofs.Finish.{searched_few, searched_finished}
 use Rattle.cutting.proofs.check.tell_piles.Goals as goal
 
-pub search-split-requires : goal.search-split-requires
-search-split-requires c = c.requires.1.long
-
 pub returns : goal.returns
 returns c =
     let a = c.args in

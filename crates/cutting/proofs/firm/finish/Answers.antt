@@ -1,10 +1,9 @@
 -- `cutting::firm::finish` meets its contract. The invariant: the table is as it came, the cuts so far are a lawful run that leaves the names,
 -- and the piles below `from` are firm. Each cut leaves less room for cuts. Assumes nothing.
 use Prim.Native.Nat.{ℕ, ◌<◌}
-use mathlib.Core.Path.{refl, ◌∙◌, ap, subst}
+use mathlib.Core.Path.{refl, ◌∙◌, subst}
 use mathlib.Core.List.{List}
 use native.Mathlib.Omega.{arith}
-use lib.ListN.{length}
 use Rattle.meaning.specs.Heap.{parted}
 use Rattle.weighing.specs.Side.{heap_of}
 use Rattle.links.specs.Table.{held}
@@ -34,9 +33,6 @@ loop-cuts-preserved-then-peeled-cuts c =
     let p = c.peel-peeled in
     (subst (λ (t : List ℕ). Peeled c.args.n (held t) c.args.k l.names l.space l.cuts c.peel-peeled.new.names c.peel-peeled.new.space p.result c.args.n) l.invariant.0 p.ensures).on c.args.space.now c.args.given.cuts l.from l.invariant.1 in
     (c.loop-cuts.invariant.0, peeled)
-
-pub search-split-requires : goal.search-split-requires
-search-split-requires c = ap length c.loop-cuts.invariant.0 ∙ c.requires.small.long
 
 pub shape_of-space-then-not-light : goal.shape_of-space-then-not-light
 shape_of-space-then-not-light c =

@@ -9,7 +9,7 @@ use Rattle.weighing.proofs.search.search.Goals as goal
 
 pub piles-init : goal.piles-init
 unfolding heap_of
-piles-init c = piling_start _ _ _ _ _ (omega arith) c.requires
+piles-init c = piling_start _ _ _ _ _ (omega arith) (omega arith)
 
 pub returns-then-bones-p : goal.returns-then-bones-p
 unfolding heap_of
