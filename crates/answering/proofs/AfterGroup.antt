@@ -1,44 +1,35 @@
--- From grouping's promise to the program's: its record fits the space, and its result text, or its refusal, is what is printed.
+-- From grouping's promise to that of the program: the record that grouping left is finished, and its result text, or grouping's refusal, is what is printed.
 -- Assumes nothing.
-use Prim.Native.Nat.{ℕ, ◌+◌, ◌*◌, ◌-◌, ◌/◌, ◌≤◌, ◌<◌}
-use mathlib.Core.Path.{◌≡◌, refl, sym, ◌∙◌, ap, ap₂, subst}
-use mathlib.Core.Bool.{true}
-use mathlib.Core.List.{List, [], ◌∷◌, ◌++◌}
-use native.Mathlib.Omega.{arith}
-use lib.Dec.{T, eqb, ltb}
-use lib.ListN.{length, take, length-append}
-use lib.Seq.{take-take}
+use Rattle.std.proofs.Common.{ℕ, ◌+◌, ◌*◌, ◌-◌, ◌/◌, ◌≤◌, ◌<◌, ◌≡◌, refl, sym, ◌∙◌, ap, ap₂, subst, arith, true, List, [], ◌∷◌, ◌++◌, length, take, length-append, take-take, T, eqb, Result, Ok, Err}
 use Rattle.meaning.specs.declared.Link.{Link}
-use Rattle.meaning.specs.declared.Judged.{Judged}
-use Rattle.meaning.specs.declared.Judged.TheVariants.{Accepted, Refused}
+use Rattle.meaning.specs.declared.Refusal.{Refusal}
 use Rattle.meaning.specs.Bytes.{Bytes}
-use Rattle.meaning.proofs.Bytes.{bytes_take}
-use Rattle.meaning.specs.Judge.{refuse, first}
+use Rattle.meaning.specs.Judge.{Judged, Accepted, answered, first, number_of}
 use Rattle.meaning.specs.Tally.{Tally, pair_tally}
 use Rattle.meaning.specs.Firm.{label, groups}
 use Rattle.meaning.specs.Heap.{Cut, start, LawfulRun, left, finished}
+use Rattle.meaning.proofs.Bytes.{bytes_take}
+use Rattle.meaning.proofs.Judge.{first_last}
 use Rattle.meaning.proofs.Sums.{count_most}
 use Rattle.meaning.proofs.Theorems.{links_symmetric, can_finish, cuts_and_groups}
 use Rattle.links.specs.Links.{table_rows}
-use Rattle.links.specs.Records.{first_of}
-use Rattle.links.proofs.LinksRows.{table_counted, accepted_left, accepted_right}
+use Rattle.links.proofs.LinksRows.{table_counted, first_accepted, accepted_left, accepted_right}
 use Rattle.cutting.specs.declared.Answer.{Answer}
 use Rattle.cutting.specs.Record.{entry_size, cuts_of}
 use Rattle.cutting.specs.RecordRows.{record_rows}
 use Rattle.cutting.specs.Rows.{label_row, space_row, grouping_rows}
-use Rattle.cutting.specs.Runs.{answered, Recorded, Continued, Sound}
+use Rattle.cutting.specs.Runs.{answer_of, Recorded, Continued, Sound}
 use Rattle.cutting.specs.Calls.{Grouping}
 use Rattle.cutting.proofs.Cuts.{length_cuts}
 use Rattle.cutting.proofs.Continuing.{record_sound}
 use Rattle.cutting.proofs.Demands.{own, own_sound}
 use Rattle.cutting.proofs.Lawful.{record_fits, lawful_entries}
-use Rattle.texts.specs.declared.Written.{Written}
 use Rattle.texts.specs.Kinds.{refusal_line}
-use Rattle.texts.specs.Writing.{Writes}
-use Rattle.texts.specs.Writers.{result_text, result_rows}
-use Rattle.texts.proofs.ResultRows.{result_rows_lem}
+use Rattle.texts.specs.Writing.{text_row, Writes, Refuses}
+use Rattle.texts.specs.Writers.{result_text, result_rows, WritingResult}
+use Rattle.texts.proofs.Rows.{told_accepted, told_refused}
 use Rattle.answering.specs.Prints.{grouped_rows, Finishes, Printed, Answers}
-use Rattle.answering.specs.Steps.{RecordHeld, AfterGrouping}
+use Rattle.answering.specs.Steps.{Framed}
 use Rattle.answering.proofs.Fitting.{Fits, grouping_fits}
 
 -- a lawful run has at most as many cuts as one fewer than groups
@@ -103,48 +94,53 @@ module _ (n k : ℕ) (links : List Link) (given : List ℕ) where
           }
 
       -- the result writer accepts it
-      only-room : (room : ℕ) → first (result_rows n k links (left_in space') room) ≡ refuse (ltb room (length (result_text n k (left_in space')))) 20 0
-      unfolding first_of
+      only-room : (room : ℕ) → first (result_rows n k links (left_in space') room) ≡ text_row (result_text n k (left_in space')) room
+      unfolding result_rows
       only-room room =
-          result_rows_lem n k links (left_in space') room
-          ∙ ap₂ (λ (i j : Judged). first_of (first_of i j) (refuse (ltb room (length (result_text n k (left_in space')))) 20 0)) judged
-          (record_fits n w k (left_in space') sound.whole sound.few ∙ lawful_entries n w k (cuts_of (left_in space')) start 0 few_bones sound.run)
+          first_accepted (table_rows n k true links ++ record_rows n w k (left_in space')) _
+          (first_accepted (table_rows n k true links) _ judged ∙ record_fits n w k (left_in space') sound.whole sound.few ∙ lawful_entries n w k (cuts_of (left_in space')) start 0 few_bones sound.run)
+          ∙ first_last _
 
-  -- by what grouping's rows give
-  ready_by : (j : Judged) → first rows ≡ j → (g : Answer) → g ≡ answered j (groups n w k) true → RecordHeld g (entry_size * 127)
-  unfolding answered RecordHeld Fits
-  ready_by Accepted e g q = subst (λ (x : Answer). RecordHeld x (entry_size * 127)) (sym q) (few_groups e)
-  ready_by (Refused number place) e g q =
-      subst (λ (x : Answer). RecordHeld x (entry_size * 127)) (sym q) (subst Fits e (grouping_fits n k links given 128 (entry_size * 127)))
+  module _ {labels labels' space space' : List ℕ} {g : Result Answer Refusal} (many : length labels ≡ 128) (wide : length space ≡ entry_size * 127) (grouped : Grouping n k true links given labels labels' space space' g) where
+    same : first (grouping_rows n k true links given (length labels) (length space)) ≡ first rows
+    same = ap first (ap₂ (grouping_rows n k true links given) many wide)
 
-  answers_by : (j : Judged) → first rows ≡ j → (space space' out out' : List ℕ) (g : Answer) (r : Written) → Bytes space' → g ≡ answered j (groups n w k) true → Recorded j n w k given space space'
-      → AfterGrouping g n k links space' out out' r → Answers j n k links given out out' r
-  unfolding answered Recorded AfterGrouping Printed
-  answers_by Accepted e space space' out out' g r bs q c a =
-      record {
-        text = result_text n k (left_in space');
-        printed = record { bytes = left_in space'; finishes = finishes e space space' bs c; result = refl };
-        writes = subst (λ (i : Judged). Writes i (result_text n k (left_in space')) out out' r) (only-room e space space' bs c (length out))
-            (subst (λ (x : Answer). AfterGrouping x n k links space' out out' r) q a);
-      }
-  answers_by (Refused number place) e space space' out out' g r bs q c a =
-      record {
-        text = refusal_line number place;
-        printed = refl;
-        writes = subst (λ (x : Answer). AfterGrouping x n k links space' out out' r) q a;
-      }
+    says : g ≡ answered (first rows) (answer_of (groups n w k) true)
+    says = grouped.answer ∙ ap (λ (j : Judged). answered j (answer_of (groups n w k) true)) same
 
-  module _ (labels labels' space space' : List ℕ) (g : Answer) (many : length labels ≡ 128) (wide : length space ≡ entry_size * 127) (grouped : Grouping n k true links given labels labels' space space' g) where
-    same : grouping_rows n k true links given (length labels) (length space) ≡ rows
-    same = ap₂ (grouping_rows n k true links given) many wide
+    module _ {refusal : Refusal} (e : g ≡ Err refusal) where
+      refused : first rows ≡ Err refusal
+      refused = told_refused (first rows) (answer_of (groups n w k) true) refusal (sym e ∙ says)
 
-    says : g ≡ answered (first rows) (groups n w k) true
-    says = grouped.answer ∙ ap (λ (js : List Judged). answered (first js) (groups n w k) true) same
+      pub grouping_framed : Framed refusal
+      unfolding Fits
+      grouping_framed = subst Fits refused (grouping_fits n k links given 128 (entry_size * 127))
 
-    pub grouping_ready : RecordHeld g (length space)
-    grouping_ready = subst (RecordHeld g) (sym wide) (ready_by (first rows) refl g says)
+      pub grouping_refused : {out out' : List ℕ} {r : Result ℕ Refusal} → Refuses (number_of refusal.row) refusal.place out out' r → Answers (first (grouped_rows n k links given)) n k links given out out' r
+      unfolding grouped_rows Printed
+      grouping_refused {out = out} {out' = out'} {r = r} a =
+          subst (λ (j : Judged). Answers j n k links given out out' r) (sym refused)
+          (record { text = refusal_line (number_of refusal.row) refusal.place; printed = refl; writes = a })
 
-    pub grouping_answers : (out out' : List ℕ) (r : Written) → Bytes space' → AfterGrouping g n k links space' out out' r → Answers (first (grouped_rows n k links given)) n k links given out out' r
-    unfolding grouped_rows
-    grouping_answers out out' r bs a =
-        answers_by (first rows) refl space space' out out' g r bs says (subst (λ (js : List Judged). Recorded (first js) n w k given space space') same grouped.record_left) a
+    module _ {answer : Answer} (e : g ≡ Ok answer) where
+      told : (first rows ≡ Accepted) × (answer ≡ answer_of (groups n w k) true)
+      told = told_accepted (first rows) (answer_of (groups n w k) true) answer (sym e ∙ says)
+
+      counted : answer.count ≡ groups n w k
+      counted = ap (λ (x : Answer). x.count) told.1
+
+      pub record_held : (answer.count - 1) * entry_size ≤ length space
+      record_held = omega (arith, few_groups told.0, counted, wide)
+
+      pub grouping_answers : {out out' : List ℕ} {r : Result ℕ Refusal} → Bytes space' → WritingResult n k links (take ((answer.count - 1) * entry_size) space') out out' r
+          → Answers (first (grouped_rows n k links given)) n k links given out out' r
+      unfolding grouped_rows Printed Recorded
+      grouping_answers {out = out} {out' = out'} {r = r} are_bytes a =
+          let c : Continued n w k given space space' = subst (λ (j : Judged). Recorded j n w k given space space') (same ∙ told.0) grouped.record_left in
+          subst (λ (j : Judged). Answers j n k links given out out' r) (sym told.0)
+          (record {
+            text = result_text n k (left_in space');
+            printed = record { bytes = left_in space'; finishes = finishes told.0 space space' are_bytes c; result = refl };
+            writes = subst (λ (j : Judged). Writes j (result_text n k (left_in space')) out out' r) (only-room told.0 space space' are_bytes c (length out))
+                (subst (λ (m : ℕ). WritingResult n k links (take ((m - 1) * entry_size) space') out out' r) counted a);
+          })

@@ -1,86 +1,108 @@
--- From the reader's promise to the program's: what was read fits the rooms, and its groups, or the reader's refusal, are what is printed.
+-- From the reader's promise to those of the programs: what was read fits the rooms and is what the text holds; a refusal fits its frame, and is the program's.
 -- Assumes nothing.
-use Prim.Native.Nat.{ℕ, ◌*◌, ◌/◌}
-use mathlib.Core.Path.{◌≡◌, refl, sym, ◌∙◌, ap, ap₂, subst}
-use mathlib.Core.List.{List, [], ◌∷◌}
-use native.Mathlib.Omega.{arith}
-use lib.Dec.{ltb}
-use lib.ListN.{length, take}
+use Rattle.std.proofs.Common.{ℕ, ◌*◌, ◌/◌, ◌≤◌, ◌≡◌, refl, sym, ◌∙◌, ap, ap₂, subst, arith, List, ◌++◌, length, take, Result, Ok, Err}
 use Rattle.meaning.specs.declared.Link.{Link}
-use Rattle.meaning.specs.declared.Judged.{Judged}
-use Rattle.meaning.specs.declared.Judged.TheVariants.{Accepted, Refused}
-use Rattle.meaning.specs.Judge.{refuse, first}
-use Rattle.meaning.specs.Room.{over, settled}
-use Rattle.meaning.proofs.Room.{take_front}
-use Rattle.links.proofs.LinksRows.{first_accepted, first-refused, accepted_left, accepted_right}
+use Rattle.meaning.specs.declared.Refusal.{Refusal}
+use Rattle.meaning.specs.Judge.{Judged, Accepted, answered, first, number_of}
+use Rattle.meaning.proofs.Room.{settled_new, take_front}
+use Rattle.links.proofs.LinksRows.{first_accepted, first-refused}
 use Rattle.cutting.specs.Record.{entry_size}
 use Rattle.texts.specs.declared.Reading.{Reading}
-use Rattle.texts.specs.declared.Written.{Written}
-use Rattle.frames.specs.declared.stage.Stage.TheVariants.{Opening}
-use Rattle.texts.specs.Lines.{Line, lines_of, line_rows}
-use Rattle.texts.specs.Reader.{links_in, entries_in, bones_in, threshold_in, reader_rows, read, Reads}
-use Rattle.texts.specs.Storing.{links_read, cuts_read}
+use Rattle.texts.specs.Lines.{Line, lines_of}
+use Rattle.texts.specs.Reader.{links_in, entries_in, bones_in, threshold_in, found_in, reader_rows, Reads}
 use Rattle.texts.specs.Kinds.{refusal_line}
-use Rattle.texts.proofs.ReadsRows.{accepted_well, entries_whole}
-use Rattle.texts.proofs.ReadsAll.{links_ok, cuts_ok}
+use Rattle.texts.specs.Writing.{Refuses}
+use Rattle.texts.proofs.Rows.{told_accepted, told_refused}
+use Rattle.texts.proofs.ReadsRows.{accepted_well, entries_whole, lines_accepted, has_room}
 use Rattle.answering.specs.Prints.{grouped_rows, program_rows, Printed, Answers, Answering}
-use Rattle.answering.specs.Steps.{Held, AfterReading}
+use Rattle.answering.specs.Steps.{Framed}
+use Rattle.answering.specs.ThinPrints.{thinned_rows, thin_rows, thin_printed, ThinAnswers, ThinsText}
 use Rattle.answering.proofs.Fitting.{Fits, reader_fits}
 
-module _ (input : List ℕ) where
+module _ {input : List ℕ} {links links' : List Link} {space space' : List ℕ} {g : Result Reading Refusal} (many : length links ≡ 4096) (wide : length space ≡ entry_size * 127) (reads : Reads input links links' space space' g) where
   abbrev ls : List Line
   ls = lines_of input
 
   abbrev rows : List Judged
   rows = reader_rows input 4096 (entry_size * 127)
 
-  abbrev others : List Judged
-  others = grouped_rows (bones_in ls) (threshold_in ls) (links_in ls) (entries_in ls)
+  same : first (reader_rows input (length links) (length space)) ≡ first rows
+  same = ap first (ap₂ (reader_rows input) many wide)
 
-  lines : first rows ≡ Accepted → first (line_rows Opening 0 ls) ≡ Accepted
-  unfolding reader_rows
-  lines e = accepted_left (line_rows Opening 0 ls) _ (accepted_right (refuse (ltb 65536 (length input)) 15 0 ∷ []) _ e)
+  says : g ≡ answered (first rows) (found_in ls)
+  says = reads.answer ∙ ap (λ (j : Judged). answered j (found_in ls)) same
 
-  module _ (links links' : List Link) (space space' : List ℕ) (g : Reading) (many : length links ≡ 4096) (wide : length space ≡ entry_size * 127) (reads : Reads input links links' space space' g) where
-    same : reader_rows input (length links) (length space) ≡ rows
-    same = ap₂ (reader_rows input) many wide
+  module _ {refusal : Refusal} (e : g ≡ Err refusal) where
+    refused : first rows ≡ Err refusal
+    refused = told_refused (first rows) (found_in ls) refusal (sym e ∙ says)
 
-    -- by what the reader's rows give
-    held_by : (j : Judged) → first rows ≡ j → g ≡ read j ls → Held g (length links) (length space)
-    unfolding read Held Fits links_read cuts_read
-    held_by Accepted e q =
-        subst (λ (x : Reading). Held x (length links) (length space)) (sym q)
-        (omega (arith, (links_ok input links space g reads.answer).fits, ap links_read q), omega (arith, (cuts_ok input links space g reads.answer).fits, ap cuts_read q))
-    held_by (Refused number place) e q =
-        subst (λ (x : Reading). Held x (length links) (length space)) (sym q) (subst Fits e (reader_fits input 4096 (entry_size * 127)))
+    pub read_framed : Framed refusal
+    unfolding Fits
+    read_framed = subst Fits refused (reader_fits input 4096 (entry_size * 127))
 
-    says : g ≡ read (first rows) ls
-    says = reads.answer ∙ ap (λ (js : List Judged). read (first js) ls) same
+    -- it is the program's refusal, and its frame is printed
+    pub read_refused : {out out' : List ℕ} {r : Result ℕ Refusal} → Refuses (number_of refusal.row) refusal.place out out' r → Answering input out out' r
+    unfolding program_rows Printed
+    read_refused {out = out} {out' = out'} {r = r} a =
+        subst (λ (j : Judged). Answers j (bones_in ls) (threshold_in ls) (links_in ls) (entries_in ls) out out' r) (sym (first-refused rows _ refusal refused))
+        (record { text = refusal_line (number_of refusal.row) refusal.place; printed = refl; writes = a })
 
-    pub reading_held : Held g (length links) (length space)
-    reading_held = held_by (first rows) refl says
+    pub read_thin_refused : {out out' : List ℕ} {r : Result ℕ Refusal} → Refuses (number_of refusal.row) refusal.place out out' r → ThinsText input out out' r
+    unfolding thin_rows thin_printed
+    read_thin_refused {out = out} {out' = out'} {r = r} a =
+        subst (λ (j : Judged). ThinAnswers j (bones_in ls) (threshold_in ls) (links_in ls) out out' r) (sym (first-refused rows _ refusal refused)) a
 
-    answers_by : (j : Judged) → first rows ≡ j → g ≡ read j ls → links' ≡ settled j links (over links 0 (links_in ls)) → space' ≡ settled j space (over space 0 (entries_in ls)) → (out out' : List ℕ) (r : Written)
-        → AfterReading g links' space' out out' r → Answering input out out' r
-    unfolding read settled AfterReading program_rows Printed cuts_read
-    answers_by Accepted e q l s out out' r a =
-        let links_are_read : take (length (links_in ls)) links' ≡ links_in ls = ap (take (length (links_in ls))) l ∙ take_front links (links_in ls) (length (links_in ls)) refl in
-        let whole : length (entries_in ls) / entry_size * entry_size ≡ length (entries_in ls) = omega (arith, entries_whole ls (accepted_well ls Opening 0 (lines e))) in
-        let cuts_are_read : take (length (entries_in ls) / entry_size * entry_size) space' ≡ entries_in ls = ap (take (length (entries_in ls) / entry_size * entry_size)) s ∙ take_front space (entries_in ls) (length (entries_in ls) / entry_size * entry_size) whole in
-        subst (λ (j : Judged). Answers j (bones_in ls) (threshold_in ls) (links_in ls) (entries_in ls) out out' r) (sym (first_accepted rows others e))
-        (subst (λ (x : List Link). Answers (first (grouped_rows (bones_in ls) (threshold_in ls) x (entries_in ls))) (bones_in ls) (threshold_in ls) x (entries_in ls) out out' r) links_are_read
-        (subst (λ (y : List ℕ). Answers (first (grouped_rows (bones_in ls) (threshold_in ls) (take (length (links_in ls)) links') y)) (bones_in ls) (threshold_in ls) (take (length (links_in ls)) links') y out out' r) cuts_are_read
-        (subst (λ (x : Reading). AfterReading x links' space' out out' r) q a)))
-    answers_by (Refused number place) e q l s out out' r a =
-        subst (λ (j : Judged). Answers j (bones_in ls) (threshold_in ls) (links_in ls) (entries_in ls) out out' r) (sym (first-refused rows others number place e))
-        (record {
-          text = refusal_line number place;
-          printed = refl;
-          writes = subst (λ (x : Reading). AfterReading x links' space' out out' r) q a;
-        })
+  module _ {found : Reading} (e : g ≡ Ok found) where
+    told : (first rows ≡ Accepted) × (found ≡ found_in ls)
+    told = told_accepted (first rows) (found_in ls) found (sym e ∙ says)
 
-    pub reading_answers : (out out' : List ℕ) (r : Written) → AfterReading g links' space' out out' r → Answering input out out' r
-    reading_answers =
-        answers_by (first rows) refl says
-        (reads.links_after ∙ ap (λ (js : List Judged). settled (first js) links (over links 0 (links_in ls))) same)
-        (reads.record_left ∙ ap (λ (js : List Judged). settled (first js) space (over space 0 (entries_in ls))) same)
+    entire : length (entries_in ls) / entry_size * entry_size ≡ length (entries_in ls)
+    entire = omega (arith, entries_whole ls (accepted_well ls _ _ (lines_accepted input 4096 (entry_size * 127) told.0)))
+
+    read_accepted : (others : List Judged) → first (rows ++ others) ≡ first others
+    read_accepted others = first_accepted rows others told.0
+
+    bones_read : found.n ≡ bones_in ls
+    unfolding found_in
+    bones_read = ap (λ (x : Reading). x.n) told.1
+
+    threshold_read : found.k ≡ threshold_in ls
+    unfolding found_in
+    threshold_read = ap (λ (x : Reading). x.k) told.1
+
+    links_found : found.links ≡ length (links_in ls)
+    unfolding found_in
+    links_found = ap (λ (x : Reading). x.links) told.1
+
+    cuts_found : found.cuts * entry_size ≡ length (entries_in ls)
+    unfolding found_in
+    cuts_found = ap (λ (x : Reading). x.cuts * entry_size) told.1 ∙ entire
+
+    pub links_held : found.links ≤ length links
+    links_held = omega (arith, links_found, many, (has_room input 4096 (entry_size * 127) told.0).links_fit)
+
+    pub cuts_held : found.cuts * entry_size ≤ length space
+    cuts_held = omega (arith, cuts_found, wide, (has_room input 4096 (entry_size * 127) told.0).entries_fit)
+
+    links_read : take found.links links' ≡ links_in ls
+    links_read = ap (take found.links) (reads.links_after ∙ settled_new links _ (same ∙ told.0)) ∙ take_front links (links_in ls) found.links links_found
+
+    entries_read : take (found.cuts * entry_size) space' ≡ entries_in ls
+    entries_read =
+        ap (take (found.cuts * entry_size)) (reads.record_left ∙ settled_new space _ (same ∙ told.0)) ∙ take_front space (entries_in ls) (found.cuts * entry_size) cuts_found
+
+    -- what the programs' next steps write of it
+    pub read_answers : {n k size : ℕ} {out out' : List ℕ} {r : Result ℕ Refusal} → n ≡ found.n → k ≡ found.k → size ≡ found.cuts * entry_size
+        → Answers (first (grouped_rows n k (take found.links links') (take size space'))) n k (take found.links links') (take size space') out out' r → Answering input out out' r
+    unfolding program_rows
+    read_answers {size = size} {out = out} {out' = out'} {r = r} bones threshold whole a =
+        let entries : take size space' ≡ entries_in ls = ap (λ (m : ℕ). take m space') whole ∙ entries_read in
+        subst (λ (j : Judged). Answers j (bones_in ls) (threshold_in ls) (links_in ls) (entries_in ls) out out' r) (sym (read_accepted (grouped_rows (bones_in ls) (threshold_in ls) (links_in ls) (entries_in ls))))
+        (rw (bones ∙ bones_read, threshold ∙ threshold_read, links_read, entries) at a)
+
+    pub read_thins : {n k : ℕ} {out out' : List ℕ} {r : Result ℕ Refusal} → n ≡ found.n → k ≡ found.k
+        → ThinAnswers (first (thinned_rows n k (take found.links links'))) n k (take found.links links') out out' r → ThinsText input out out' r
+    unfolding thin_rows
+    read_thins {out = out} {out' = out'} {r = r} bones threshold a =
+        subst (λ (j : Judged). ThinAnswers j (bones_in ls) (threshold_in ls) (links_in ls) out out' r) (sym (read_accepted (thinned_rows (bones_in ls) (threshold_in ls) (links_in ls))))
+        (rw (bones ∙ bones_read, threshold ∙ threshold_read, links_read) at a)

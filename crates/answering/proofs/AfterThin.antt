@@ -1,36 +1,26 @@
 -- From thinning's promise to that of the program `thin`: the links kept fit the space, and their input text, or thinning's refusal, is what is printed.
 -- Assumes nothing.
-use Prim.Native.Nat.{ℕ, ◌-◌, ◌≤◌}
-use mathlib.Core.Path.{◌≡◌, refl, sym, ◌∙◌, ap, subst}
-use mathlib.Core.Bool.{Bool, true, false, cond}
-use mathlib.Core.List.{List, [], ◌∷◌}
-use native.Mathlib.Omega.{arith}
-use lib.Dec.{ltb}
-use lib.ListN.{length, take}
-use borrow.Author.Tests.{le-ltb, ne_eqb}
+use Rattle.std.proofs.Common.{ℕ, ◌-◌, ◌≤◌, ◌≡◌, refl, sym, ◌∙◌, ap, subst, arith, Bool, true, false, cond, List, [], ◌∷◌, length, take, le-ltb, ne_eqb, Result, Ok, Err}
 use Rattle.meaning.specs.declared.Link.{Link}
-use Rattle.meaning.specs.declared.Judged.{Judged}
-use Rattle.meaning.specs.declared.Judged.TheVariants.{Accepted, Refused}
-use Rattle.meaning.specs.Judge.{refuse, first}
-use Rattle.meaning.specs.Room.{over, settled}
-use Rattle.meaning.proofs.Room.{take_front}
+use Rattle.meaning.specs.declared.Refusal.{Refusal}
+use Rattle.meaning.specs.Judge.{Judged, Accepted, answered, refuse, first, number_of}
 use Rattle.meaning.specs.Tally.{Tally, pair_tally}
 use Rattle.meaning.specs.Firm.{label}
+use Rattle.meaning.proofs.Judge.{first_last}
+use Rattle.meaning.proofs.Room.{settled_new, take_front}
 use Rattle.links.specs.Links.{count_rows, links_rows, table_rows}
-use Rattle.links.proofs.LinksRows.{Propers, first_accepted, links_proper, accepted_left, table_counted, table_proper}
 use Rattle.links.specs.Records.{same_label, kept_links}
+use Rattle.links.proofs.LinksRows.{Propers, first_accepted, links_proper, accepted_left, table_counted, table_proper}
+use Rattle.links.proofs.RecordsKept.{kept_few}
 use Rattle.cutting.specs.Names.{names}
 use Rattle.cutting.specs.RecordRows.{record_row}
-use Rattle.cutting.specs.declared.Thinned.{Thinned}
 use Rattle.cutting.specs.Rows.{thinning_rows}
-use Rattle.cutting.specs.Calls.{kept, keeping, ThinningRecords}
-use Rattle.cutting.proofs.Keeping.{kept_most}
-use Rattle.texts.specs.declared.Written.{Written}
-use Rattle.texts.specs.Writing.{Writes}
-use Rattle.texts.specs.Inputs.{input_text, input_rows}
-use Rattle.texts.proofs.ResultRows.{one_row}
+use Rattle.cutting.specs.Calls.{kept, ThinningRecords}
+use Rattle.texts.specs.Writing.{text_row, Writes, Refuses}
+use Rattle.texts.specs.Inputs.{input_text, input_rows, WritingInput}
+use Rattle.texts.proofs.Rows.{told_accepted, told_refused}
+use Rattle.answering.specs.Steps.{Framed}
 use Rattle.answering.specs.ThinPrints.{thinned_rows, thinned_text, thin_printed, ThinAnswers}
-use Rattle.answering.specs.ThinSteps.{KeptHeld, AfterThinning}
 use Rattle.answering.proofs.Fitting.{Fits, thinning_fits}
 
 -- what holds of each link of a list holds of each that is kept
@@ -74,7 +64,7 @@ module _ (n k : ℕ) (links : List Link) where
   stay = kept n w k links
 
   most_kept : length stay ≤ length links
-  most_kept = kept_most (names 128 (label n w k)) links
+  most_kept = kept_few (names 128 (label n w k)) links
 
   module _ (accepted : first rows ≡ Accepted) where
     judged : first (table_rows n k true links) ≡ Accepted
@@ -92,41 +82,43 @@ module _ (n k : ℕ) (links : List Link) where
         ∙ links_proper n 0 stay (kept_proper n (names 128 (label n w k)) links (table_proper n k true links judged))
 
     -- so only row 20 is left
-    pub only-room : (room : ℕ) → first (input_rows n k stay [] room) ≡ refuse (ltb room (length (input_text n k stay []))) 20 0
+    pub only-room : (room : ℕ) → first (input_rows n k stay [] room) ≡ text_row (input_text n k stay []) room
     unfolding input_rows
     only-room room =
-        let last : Judged = refuse (ltb room (length (input_text n k stay []))) 20 0 in
-        first_accepted (table_rows n k true stay) (record_row n 0 ∷ last ∷ []) kept_judged
-        ∙ first_accepted (record_row n 0 ∷ []) (last ∷ []) (one_row (record_row n 0) ∙ none_accepted n)
-        ∙ one_row last
+        first_accepted (table_rows n k true stay) _ kept_judged ∙ first_accepted (record_row n 0 ∷ []) _ (first_last (record_row n 0) ∙ none_accepted n) ∙ first_last _
 
-  -- by what thinning's rows give
-  held_by : (j : Judged) → first rows ≡ j → (g : Thinned) → g ≡ keeping j (length stay) → KeptHeld g 4096
-  unfolding keeping KeptHeld Fits
-  held_by Accepted e g q = subst (λ (x : Thinned). KeptHeld x 4096) (sym q) (few_kept e)
-  held_by (Refused number place) e g q = subst (λ (x : Thinned). KeptHeld x 4096) (sym q) (subst Fits e (thinning_fits n k links 4096))
+  module _ {space space' : List Link} {g : Result ℕ Refusal} (many : length space ≡ 4096) (thins : ThinningRecords n k links space space' g) where
+    same : first (thinning_rows n k true links (length space)) ≡ first rows
+    same = ap (λ (m : ℕ). first (thinning_rows n k true links m)) many
 
-  answers_by : (j : Judged) → first rows ≡ j → (space space' : List Link) (out out' : List ℕ) (g : Thinned) (r : Written) → g ≡ keeping j (length stay) → space' ≡ settled j space (over space 0 stay)
-      → AfterThinning g n k space' out out' r → ThinAnswers j n k links out out' r
-  unfolding keeping settled AfterThinning thin_printed thinned_text
-  answers_by Accepted e space space' out out' g r q s a =
-      let front : take (length stay) space' ≡ stay = ap (take (length stay)) s ∙ take_front space stay (length stay) refl in
-      subst (λ (j : Judged). Writes j (input_text n k stay []) out out' r) (only-room e (length out))
-      (subst (λ (ls : List Link). Writes (first (input_rows n k ls [] (length out))) (input_text n k ls []) out out' r) front
-      (subst (λ (x : Thinned). AfterThinning x n k space' out out' r) q a))
-  answers_by (Refused number place) e space space' out out' g r q s a = subst (λ (x : Thinned). AfterThinning x n k space' out out' r) q a
+    says : g ≡ answered (first rows) (length stay)
+    says = thins.answer ∙ ap (λ (j : Judged). answered j (length stay)) same
 
-  module _ (space space' : List Link) (g : Thinned) (many : length space ≡ 4096) (thins : ThinningRecords n k links space space' g) where
-    same : thinning_rows n k true links (length space) ≡ rows
-    same = ap (thinning_rows n k true links) many
+    module _ {refusal : Refusal} (e : g ≡ Err refusal) where
+      refused : first rows ≡ Err refusal
+      refused = told_refused (first rows) (length stay) refusal (sym e ∙ says)
 
-    says : g ≡ keeping (first rows) (length stay)
-    says = thins.answer ∙ ap (λ (js : List Judged). keeping (first js) (length stay)) same
+      pub thinning_framed : Framed refusal
+      unfolding Fits
+      thinning_framed = subst Fits refused (thinning_fits n k links 4096)
 
-    pub thinning_held : KeptHeld g (length space)
-    thinning_held = subst (KeptHeld g) (sym many) (held_by (first rows) refl g says)
+      pub thinning_refused : {out out' : List ℕ} {r : Result ℕ Refusal} → Refuses (number_of refusal.row) refusal.place out out' r → ThinAnswers (first (thinned_rows n k links)) n k links out out' r
+      unfolding thinned_rows thin_printed
+      thinning_refused {out = out} {out' = out'} {r = r} a = subst (λ (j : Judged). ThinAnswers j n k links out out' r) (sym refused) a
 
-    pub thinning_answers : (out out' : List ℕ) (r : Written) → AfterThinning g n k space' out out' r → ThinAnswers (first (thinned_rows n k links)) n k links out out' r
-    unfolding thinned_rows
-    thinning_answers out out' r a =
-        answers_by (first rows) refl space space' out out' g r says (thins.links_after ∙ ap (λ (js : List Judged). settled (first js) space (over space 0 stay)) same) a
+    module _ {count : ℕ} (e : g ≡ Ok count) where
+      told : (first rows ≡ Accepted) × (count ≡ length stay)
+      told = told_accepted (first rows) (length stay) count (sym e ∙ says)
+
+      pub kept_held : count ≤ length space
+      kept_held = omega (arith, told.1, few_kept told.0, many)
+
+      front : take count space' ≡ stay
+      front = ap (take count) (thins.links_after ∙ settled_new space _ (same ∙ told.0)) ∙ take_front space stay count told.1
+
+      pub thinning_answers : {out out' : List ℕ} {r : Result ℕ Refusal} → WritingInput n k (take count space') [] out out' r → ThinAnswers (first (thinned_rows n k links)) n k links out out' r
+      unfolding thinned_rows thin_printed thinned_text
+      thinning_answers {out = out} {out' = out'} {r = r} a =
+          subst (λ (j : Judged). ThinAnswers j n k links out out' r) (sym told.0)
+          (subst (λ (j : Judged). Writes j (input_text n k stay []) out out' r) (only-room told.0 (length out))
+          (subst (λ (ls : List Link). WritingInput n k ls [] out out' r) front a))

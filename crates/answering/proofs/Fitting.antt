@@ -1,6 +1,6 @@
--- A refusal of the reader, of grouping or of thinning fits the frame that tells it: its number is below 256, and its place below 65,536.
+-- A refusal of the reader, of grouping or of thinning fits the frame that tells it: its place is below 65,536.
 --     Fits             what a judgement is, if it refuses
---     reader-fits, grouping-fits, thinning-fits     the first refusal of each
+--     reader_fits, grouping_fits, thinning_fits     the first refusal of each
 -- Assumes nothing.
 use Prim.Native.Nat.{ℕ, suc, ◌+◌, ◌-◌, ◌/◌, ◌%◌, ◌≤◌, ◌<◌}
 use mathlib.Core.Path.{◌≡◌, refl, subst}
@@ -11,9 +11,9 @@ use lib.Dec.{eqb, ltb, lit<}
 use lib.ListN.{length}
 use borrow.Author.Tests.{ltb-false}
 use Rattle.meaning.specs.declared.Link.{Link}
-use Rattle.meaning.specs.declared.Judged.{Judged}
-use Rattle.meaning.specs.declared.Judged.TheVariants.{Accepted, Refused}
-use Rattle.meaning.specs.Judge.{refuse, first}
+use Rattle.meaning.specs.declared.Row.{Row}
+use Rattle.std.proofs.Common.{Ok, Err}
+use Rattle.meaning.specs.Judge.{Judged, Accepted, refuse, first}
 use Rattle.meaning.specs.Tally.{Tally, pair_tally}
 use Rattle.meaning.specs.Heap.{Heap, Cut, start, parted}
 use Rattle.links.specs.Links.{link_rows, links_rows, count_rows, table_rows}
@@ -31,20 +31,20 @@ use Rattle.texts.specs.Reader.{reader_rows}
 use Rattle.answering.specs.Steps.{Framed}
 
 unfoldable pub Fits : Judged → Type 0
-Fits Accepted = Unit {0}
-Fits (Refused number place) = Framed number place
+Fits (Ok done) = Unit {0}
+Fits (Err refusal) = Framed refusal
 
 -- one row in front of others, which are looked at where it accepts
-row_fits : (b : Bool) (number place : ℕ) (js : List Judged) → Framed number place → (b ≡ false → Fits (first js)) → Fits (first (refuse b number place ∷ js))
+row_fits : (b : Bool) (row : Row) (place : ℕ) (js : List Judged) → place < 65536 → (b ≡ false → Fits (first js)) → Fits (first (refuse b row place ∷ js))
 unfolding Fits refuse first
-row_fits true number place js small rest = small
-row_fits false number place js small rest = rest refl
+row_fits true row place js small rest = small
+row_fits false row place js small rest = rest refl
 
 pub both_fit : (js ks : List Judged) → Fits (first js) → (first js ≡ Accepted → Fits (first ks)) → Fits (first (js ++ ks))
 unfolding Fits first
 both_fit [] ks f g = g refl
-both_fit (Accepted ∷ js) ks f g = both_fit js ks f g
-both_fit (Refused number place ∷ js) ks f g = f
+both_fit (Ok done ∷ js) ks f g = both_fit js ks f g
+both_fit (Err refusal ∷ js) ks f g = f
 
 none_fits : Fits (first [])
 unfolding Fits first
@@ -56,25 +56,25 @@ links_fit : (n i : ℕ) (links : List Link) → i + length links ≤ 65536 → F
 unfolding links_rows link_rows
 links_fit n i [] h = none_fits
 links_fit n i (l ∷ ls) h =
-    row_fits _ 4 i _ (lit< tt, omega arith) (λ _.
-    row_fits _ 5 i _ (lit< tt, omega arith) (λ _.
-    row_fits _ 6 i _ (lit< tt, omega arith) (λ _. links_fit n (suc i) ls (omega arith))))
+    row_fits _ _ i _ (omega arith) (λ _.
+    row_fits _ _ i _ (omega arith) (λ _.
+    row_fits _ _ i _ (omega arith) (λ _. links_fit n (suc i) ls (omega arith))))
 
 table_fits : (n k : ℕ) (links : List Link) → Fits (first (table_rows n k true links))
 unfolding table_rows count_rows
 table_fits n k links =
-    row_fits _ 1 0 _ (lit< tt, lit< tt) (λ _.
-    row_fits _ 2 0 _ (lit< tt, lit< tt) (λ _.
-    row_fits _ 3 0 _ (lit< tt, lit< tt) (λ e. links_fit n 0 links (omega (arith, ltb-false 4096 (length links) e)))))
+    row_fits _ _ 0 _ (lit< tt) (λ _.
+    row_fits _ _ 0 _ (lit< tt) (λ _.
+    row_fits _ _ 0 _ (lit< tt) (λ e. links_fit n 0 links (omega (arith, ltb-false 4096 (length links) e)))))
 
 entries_fit : (n : ℕ) (w : Tally) (k : ℕ) (h : Heap) (i : ℕ) (cs : List Cut) → i + length cs ≤ 65536 → Fits (first (entries_rows n w k h i cs))
 unfolding entries_rows entry_rows
 entries_fit n w k h i [] l = none_fits
 entries_fit n w k h i (c ∷ cs) l =
-    row_fits _ 10 i _ (lit< tt, omega arith) (λ _.
-    row_fits _ 11 i _ (lit< tt, omega arith) (λ _.
-    row_fits _ 12 i _ (lit< tt, omega arith) (λ _.
-    row_fits _ 13 i _ (lit< tt, omega arith) (λ _. entries_fit n w k (parted n h c) (suc i) cs (omega arith)))))
+    row_fits _ _ i _ (omega arith) (λ _.
+    row_fits _ _ i _ (omega arith) (λ _.
+    row_fits _ _ i _ (omega arith) (λ _.
+    row_fits _ _ i _ (omega arith) (λ _. entries_fit n w k (parted n h c) (suc i) cs (omega arith)))))
 
 either : (a b : Bool) → a || b ≡ false → b ≡ false
 either true b e = absurd (subst (λ (x : Bool). cond x (Unit {0}) ⊥) e tt)
@@ -83,7 +83,7 @@ either false b e = e
 record_fits : (n : ℕ) (w : Tally) (k : ℕ) (bytes : List ℕ) → n ≤ 128 → Fits (first (record_rows n w k bytes))
 unfolding record_rows record_row cuts_of
 record_fits n w k bytes few =
-    row_fits _ 9 0 _ (lit< tt, lit< tt) (λ e.
+    row_fits _ _ 0 _ (lit< tt) (λ e.
     entries_fit n w k start 0 (cuts_in (length bytes / entry_size) bytes)
     (omega (arith, ltb-false (n - 1) (length bytes / entry_size) (either (not (eqb (length bytes % entry_size) 0)) (ltb (n - 1) (length bytes / entry_size)) e), length_cuts (length bytes / entry_size) bytes)))
 
@@ -91,25 +91,25 @@ pub grouping_fits : (n k : ℕ) (links : List Link) (bytes : List ℕ) (label_ro
 unfolding grouping_rows label_row space_row
 grouping_fits n k links bytes label_room record_room =
     both_fit (table_rows n k true links) _ (table_fits n k links) (λ e.
-    row_fits _ 7 0 _ (lit< tt, lit< tt) (λ _.
-    row_fits _ 8 0 _ (lit< tt, lit< tt) (λ _. record_fits n (pair_tally links) k bytes (table_counted n k true links e).few_bones)))
+    row_fits _ _ 0 _ (lit< tt) (λ _.
+    row_fits _ _ 0 _ (lit< tt) (λ _. record_fits n (pair_tally links) k bytes (table_counted n k true links e).few_bones)))
 
 -- ---- thinning
 
 pub thinning_fits : (n k : ℕ) (links : List Link) (link_room : ℕ) → Fits (first (thinning_rows n k true links link_room))
 unfolding thinning_rows link_row
-thinning_fits n k links link_room = both_fit (table_rows n k true links) _ (table_fits n k links) (λ _. row_fits _ 14 0 _ (lit< tt, lit< tt) (λ _. none_fits))
+thinning_fits n k links link_room = both_fit (table_rows n k true links) _ (table_fits n k links) (λ _. row_fits _ _ 0 _ (lit< tt) (λ _. none_fits))
 
 -- ---- the reader
 
 lines_fit : (stage : Stage) (i : ℕ) (ls : List Line) → i + length ls ≤ 65535 → Fits (first (line_rows stage i ls))
 unfolding line_rows
-lines_fit stage i [] h = row_fits _ 18 i _ (lit< tt, omega arith) (λ _. none_fits)
+lines_fit stage i [] h = row_fits _ _ i _ (omega arith) (λ _. none_fits)
 lines_fit stage i (l ∷ ls) h =
-    row_fits _ 16 i _ (lit< tt, omega arith) (λ _.
-    row_fits _ 17 i _ (lit< tt, omega arith) (λ _.
-    row_fits _ 18 i _ (lit< tt, omega arith) (λ _.
-    row_fits _ 19 i _ (lit< tt, omega arith) (λ _. lines_fit (after stage (kind l)) (suc i) ls (omega arith)))))
+    row_fits _ _ i _ (omega arith) (λ _.
+    row_fits _ _ i _ (omega arith) (λ _.
+    row_fits _ _ i _ (omega arith) (λ _.
+    row_fits _ _ i _ (omega arith) (λ _. lines_fit (after stage (kind l)) (suc i) ls (omega arith)))))
 
 -- a text has at most as many lines as characters
 before_most : (c : ℕ) (ls : List Line) (m : ℕ) → 0 < m → length ls ≤ m → length (before c ls) ≤ m
@@ -129,7 +129,7 @@ lines_most (c ∷ cs) = go (eqb c 10) (lines_most cs)
 -- an empty first line is refused at once
 empty_line : (ls : List Line) → Fits (first (line_rows Opening 0 (record { characters = []; ended = true } ∷ ls)))
 unfolding line_rows refuse first well_formed is_hex is_kind bytes_of Fits
-empty_line ls = (lit< tt, lit< tt)
+empty_line ls = lit< tt
 
 -- any other first line leaves fewer lines than characters
 text_fits : (text : List ℕ) → length text ≤ 65536 → Fits (first (line_rows Opening 0 (lines_of text)))
@@ -144,9 +144,9 @@ text_fits (c ∷ cs) h = go (eqb c 10)
 pub reader_fits : (text : List ℕ) (link_room record_room : ℕ) → Fits (first (reader_rows text link_room record_room))
 unfolding reader_rows
 reader_fits text link_room record_room =
-    row_fits _ 15 0 _ (lit< tt, lit< tt) (λ e.
+    row_fits _ _ 0 _ (lit< tt) (λ e.
     both_fit (line_rows Opening 0 (lines_of text)) _ (text_fits text (ltb-false 65536 (length text) e)) (λ _.
-    row_fits _ 3 0 _ (lit< tt, lit< tt) (λ _.
-    row_fits _ 9 0 _ (lit< tt, lit< tt) (λ _.
-    row_fits _ 14 0 _ (lit< tt, lit< tt) (λ _.
-    row_fits _ 8 0 _ (lit< tt, lit< tt) (λ _. none_fits))))))
+    row_fits _ _ 0 _ (lit< tt) (λ _.
+    row_fits _ _ 0 _ (lit< tt) (λ _.
+    row_fits _ _ 0 _ (lit< tt) (λ _.
+    row_fits _ _ 0 _ (lit< tt) (λ _. none_fits))))))

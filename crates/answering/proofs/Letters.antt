@@ -1,18 +1,11 @@
 -- No text that a program may print has a character other than the digits 0 to 9 and a to f and the line feed: `only_letters` of bones, `thin_letters` of thin.
 -- Assumes nothing.
-use Prim.Native.Nat.{ℕ, zero, suc, ◌+◌, ◌*◌, ◌-◌, ◌≤◌, ◌<◌}
-use mathlib.Core.Path.{◌≡◌, refl, sym, subst}
-use mathlib.Core.Bool.{true}
-use mathlib.Core.List.{List, [], ◌∷◌, ◌++◌}
-use native.Mathlib.Nat.{le_refl}
-use native.Mathlib.Omega.{arith}
-use lib.Dec.{T, eqb}
-use lib.ListN.{length, take, drop}
+use Rattle.std.proofs.Common.{ℕ, zero, suc, ◌+◌, ◌*◌, ◌-◌, ◌≤◌, ◌<◌, ◌≡◌, refl, sym, subst, arith, rules, le_refl, true, List, [], ◌∷◌, ◌++◌, length, take, drop, T, eqb, Result, Ok, Err}
 use Rattle.meaning.specs.declared.Link.{Link}
-use Rattle.meaning.specs.declared.Judged.{Judged}
-use Rattle.meaning.specs.declared.Judged.TheVariants.{Accepted, Refused}
+use Rattle.meaning.specs.declared.Row.{Row}
+use Rattle.meaning.specs.declared.Refusal.{Refusal}
 use Rattle.meaning.specs.Bytes.{Bytes}
-use Rattle.meaning.specs.Judge.{first}
+use Rattle.meaning.specs.Judge.{Judged, Accepted, first, number_of}
 use Rattle.meaning.specs.Tally.{pair_tally}
 use Rattle.meaning.specs.Firm.{label, groups}
 use Rattle.meaning.specs.Heap.{Heap}
@@ -28,13 +21,13 @@ use Rattle.frames.specs.Frame.{line, lettered}
 use Rattle.frames.proofs.Letters.{letters_append, line_letters}
 use Rattle.texts.specs.Lines.{lines_of}
 use Rattle.texts.specs.Reader.{links_in, entries_in, bones_in, threshold_in, reader_rows}
-use Rattle.texts.specs.declared.Written.{Written}
 use Rattle.texts.specs.Kinds.{two, head_line, link_line, link_lines, cut_lines, label_line, label_lines, close_line, refusal_line}
 use Rattle.texts.specs.Inputs.{AllInFrames, input_text}
-use Rattle.answering.specs.Prints.{grouped_rows, program_rows, Result, Printed, Answering}
+use Rattle.answering.specs.Prints.{grouped_rows, program_rows, ResultText, Printed, Answering}
+use Rattle.answering.specs.Steps.{Framed}
+use Rattle.answering.specs.ThinPrints.{thinned_rows, thin_rows, thinned_text, thin_printed}
 use Rattle.answering.proofs.Fitting.{Fits, both_fit, reader_fits, grouping_fits, thinning_fits}
 use Rattle.answering.proofs.Theorems.{settled_but_cuts, accepted_counts}
-use Rattle.answering.specs.ThinPrints.{thinned_rows, thin_rows, thinned_text, thin_printed}
 use Rattle.answering.proofs.AfterThin.{few_kept}
 use Rattle.answering.proofs.ThinTheorems.{thinned, small}
 
@@ -59,9 +52,21 @@ labels_letters (suc n) h few low =
     letters_append (label_lines n h) (label_line n (h n)) (labels_letters n h (omega arith) (λ b l. low b (omega arith)))
     (line_letters 4 (n ∷ h n ∷ []) (bytes_cons 4 (n ∷ h n ∷ []) (omega arith) (bytes_cons n (h n ∷ []) (omega arith) (bytes_cons (h n) [] (low n (le_refl (suc n))) (λ i. omega arith)))))
 
+-- each number of the refusal table is a byte
+number_is_byte : (row : Row) → number_of row < 256
+unfolding number_of
+number_is_byte row = search rules
+
+refusal_letters : (refusal : Refusal) → Framed refusal → T (lettered (refusal_line (number_of refusal.row) refusal.place))
+unfolding refusal_line
+refusal_letters refusal fits =
+    let number = number_of refusal.row in
+    let place = two refusal.place in
+    line_letters 7 (number ∷ place) (bytes_cons 7 (number ∷ place) (omega arith) (bytes_cons number place (number_is_byte refusal.row) (two_bytes refusal.place fits)))
+
 module _ (n k : ℕ) (links : List Link) (given : List ℕ) where
   -- a result text
-  result_letters : 0 < n → n ≤ 128 → k ≤ 65535 → (text : List ℕ) → Result n k links given text → T (lettered text)
+  result_letters : 0 < n → n ≤ 128 → k ≤ 65535 → (text : List ℕ) → ResultText n k links given text → T (lettered text)
   unfolding head_line close_line groups
   result_letters some few low text r =
       let w = pair_tally links in
@@ -80,13 +85,11 @@ module _ (n k : ℕ) (links : List Link) (given : List ℕ) where
       (line_letters 6 (two (many + n)) (bytes_cons 6 (two (many + n)) (omega arith) (two_bytes (many + n) (omega (arith, most))))))
 
   printed_letters : (j : Judged) → Fits j → (j ≡ Accepted → (0 < n) × (n ≤ 128) × (k ≤ 65535)) → (text : List ℕ) → Printed j n k links given text → T (lettered text)
-  unfolding Printed Fits refusal_line
-  printed_letters Accepted fits counts text p = let c = counts refl in result_letters c.0 c.1 c.2 text p
-  printed_letters (Refused number place) fits counts text p =
-      subst (λ (t : List ℕ). T (lettered t)) (sym p)
-      (line_letters 7 (number ∷ two place) (bytes_cons 7 (number ∷ two place) (omega arith) (bytes_cons number (two place) fits.0 (two_bytes place fits.1))))
+  unfolding Printed Fits
+  printed_letters (Ok done) fits counts text p = let c = counts refl in result_letters c.0 c.1 c.2 text p
+  printed_letters (Err refusal) fits counts text p = subst (λ (t : List ℕ). T (lettered t)) (sym p) (refusal_letters refusal fits)
 
-pub only_letters : (input out out' : List ℕ) (r : Written) (a : Answering input out out' r) → T (lettered a.text)
+pub only_letters : (input out out' : List ℕ) (r : Result ℕ Refusal) (a : Answering input out out' r) → T (lettered a.text)
 unfolding program_rows grouped_rows
 only_letters input out out' r a =
     let ls = lines_of input in
@@ -116,10 +119,9 @@ thinned_letters n k ls few low short s =
     (line_letters 6 (two (1 + length ls + 0)) (bytes_cons 6 (two (1 + length ls + 0)) (omega arith) (two_bytes (1 + length ls + 0) (omega arith))))
 
 thin_printed_lem : (j : Judged) (n k : ℕ) (links : List Link) → Fits j → (j ≡ Accepted → T (lettered (thinned_text n k links))) → T (lettered (thin_printed j n k links))
-unfolding thin_printed Fits refusal_line
-thin_printed_lem Accepted n k links fits text = text refl
-thin_printed_lem (Refused number place) n k links fits text =
-    line_letters 7 (number ∷ two place) (bytes_cons 7 (number ∷ two place) (omega arith) (bytes_cons number (two place) fits.0 (two_bytes place fits.1)))
+unfolding thin_printed Fits
+thin_printed_lem (Ok done) n k links fits text = text refl
+thin_printed_lem (Err refusal) n k links fits text = refusal_letters refusal fits
 
 thin_accepted : (input : List ℕ) → first (thin_rows input) ≡ Accepted → T (lettered (thinned_text (bones_in (lines_of input)) (threshold_in (lines_of input)) (links_in (lines_of input))))
 unfolding thinned_text thinning_rows

@@ -2,7 +2,6 @@
 pub mod Fitting
 pub mod AfterGroup
 pub mod AfterRead
-pub mod AfterReadThin
 pub mod AfterThin
 pub mod Spaces
 pub mod Theorems

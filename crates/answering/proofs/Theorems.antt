@@ -1,18 +1,10 @@
 -- The theorems about the program's answer: what of it the promise settles. All but the cuts that grouping adds, which document 01 leaves free.
 -- Assumes nothing.
-use Prim.Native.Nat.{ℕ, zero, suc, ◌+◌, ◌*◌, ◌-◌, ◌/◌, ◌≤◌, ◌<◌}
-use mathlib.Core.Path.{◌≡◌, refl, sym, ◌∙◌, ap, ap₂, subst}
-use mathlib.Core.Bool.{true}
-use mathlib.Core.List.{List, ◌++◌}
-use native.Mathlib.Nat.{le_refl}
-use native.Mathlib.Omega.{arith}
-use lib.Dec.{eqb, ltb}
-use lib.ListN.{length}
-use borrow.Author.Tests.{le-ltb}
+use Rattle.std.proofs.Common.{ℕ, zero, suc, ◌+◌, ◌*◌, ◌-◌, ◌/◌, ◌≤◌, ◌<◌, ◌≡◌, refl, sym, ◌∙◌, ap, ap₂, subst, arith, le_refl, true, List, ◌++◌, length, eqb, ltb, le-ltb, Result, Ok, Err}
 use Rattle.meaning.specs.declared.Link.{Link}
-use Rattle.meaning.specs.declared.Judged.{Judged}
-use Rattle.meaning.specs.declared.Judged.TheVariants.{Accepted, Refused}
-use Rattle.meaning.specs.Judge.{refuse, first}
+use Rattle.meaning.specs.declared.Refusal.{Refusal}
+use Rattle.meaning.specs.declared.Row.TheVariants.{TextSpace}
+use Rattle.meaning.specs.Judge.{Judged, Accepted, answered, refuse, first, number_of}
 use Rattle.meaning.specs.Room.{over, settled}
 use Rattle.meaning.specs.Tally.{pair_tally}
 use Rattle.meaning.specs.Firm.{label, groups}
@@ -22,20 +14,18 @@ use Rattle.meaning.proofs.Theorems.{names_are_labels, cuts_and_groups}
 use Rattle.links.specs.Links.{table_rows}
 use Rattle.links.proofs.LinksRows.{table_counted, accepted_left, accepted_right}
 use Rattle.cutting.specs.Record.{entry_size, cuts_of}
+use Rattle.cutting.specs.Rows.{grouping_rows}
 use Rattle.cutting.proofs.Cuts.{length_cuts}
 use Rattle.cutting.proofs.Same.{same_bytes}
-use Rattle.cutting.specs.Rows.{grouping_rows}
 use Rattle.texts.specs.Lines.{lines_of}
 use Rattle.texts.specs.Reader.{links_in, entries_in, bones_in, threshold_in, reader_rows}
-use Rattle.texts.specs.declared.Written.{Written}
-use Rattle.texts.specs.declared.Written.TheVariants.{Wrote, Refused as the-written-Refused}
 use Rattle.texts.specs.Kinds.{head_line, cut_lines, label_line, label_lines, close_line, refusal_line}
-use Rattle.texts.specs.Writing.{wrote}
+use Rattle.texts.specs.Writing.{text_row}
 use Rattle.texts.specs.Writers.{result_text}
 use Rattle.texts.specs.Steps.{result_size}
 use Rattle.texts.proofs.Texts.{result_length}
 use Rattle.texts.proofs.WritesLines.{length_refusal}
-use Rattle.answering.specs.Prints.{grouped_rows, program_rows, Finishes, Result, Printed, shown_cuts, Answering}
+use Rattle.answering.specs.Prints.{grouped_rows, program_rows, Finishes, ResultText, Printed, shown_cuts, Answering}
 
 -- ---- a result text
 
@@ -56,7 +46,7 @@ module _ (n k : ℕ) (links : List Link) (given : List ℕ) (some_bones : 0 < n)
       omega (arith, length_cuts (length bytes / entry_size) bytes, cuts_and_groups n (pair_tally links) k some_bones (cuts_of bytes) f.lawful f.done)
 
   -- a result text is settled but for its cuts: their number is one less than the groups, and the labels are those of the groups
-  pub settled_but_cuts : (text : List ℕ) (r : Result n k links given text)
+  pub settled_but_cuts : (text : List ℕ) (r : ResultText n k links given text)
       → text ≡ head_line n k ++ cut_lines (many - 1) r.bytes ++ label_lines n (label n (pair_tally links) k) ++ close_line (many + n)
   unfolding result_text
   settled_but_cuts text r =
@@ -69,7 +59,7 @@ module _ (n k : ℕ) (links : List Link) (given : List ℕ) (some_bones : 0 < n)
       (labels_same n (left n start (cuts_of r.bytes)) (label n (pair_tally links) k) labelled)
       ∙ ap (λ (m : ℕ). head_line n k ++ cut_lines (many - 1) r.bytes ++ label_lines n (label n (pair_tally links) k) ++ close_line m) frames
 
-  result_size_lem : (text : List ℕ) → Result n k links given text → length text ≡ result_size (many - 1) n
+  result_size_lem : (text : List ℕ) → ResultText n k links given text → length text ≡ result_size (many - 1) n
   result_size_lem text r = ap length r.result ∙ result_length n k r.bytes ∙ omega (arith, cuts_are r.bytes r.finishes)
 
 -- ---- the answer to an input
@@ -86,29 +76,29 @@ accepted_counts input e =
 module _ (n k : ℕ) (links : List Link) (given : List ℕ) where
   one_size : (j : Judged) → (j ≡ Accepted → 0 < n) → (t u : List ℕ) → Printed j n k links given t → Printed j n k links given u → length t ≡ length u
   unfolding Printed
-  one_size Accepted some t u p q = result_size_lem n k links given (some refl) t p ∙ sym (result_size_lem n k links given (some refl) u q)
-  one_size (Refused number place) some t u p q = ap length (p ∙ sym q)
+  one_size (Ok done) some t u p q = result_size_lem n k links given (some refl) t p ∙ sym (result_size_lem n k links given (some refl) u q)
+  one_size (Err refusal) some t u p q = ap length (p ∙ sym q)
 
   few_bytes : (j : Judged) → (j ≡ Accepted → (0 < n) × (n ≤ 128)) → (t : List ℕ) → Printed j n k links given t → length t ≤ result_size 127 128
   unfolding Printed groups
-  few_bytes Accepted fits t p =
+  few_bytes (Ok done) fits t p =
       omega (arith, result_size_lem n k links given (fits refl).0 t p, count_most n (λ b. eqb (label n (pair_tally links) k b) b), (fits refl).1)
-  few_bytes (Refused number place) fits t p = omega (arith, ap length p, length_refusal number place)
+  few_bytes (Err refusal) fits t p = omega (arith, ap length p, length_refusal (number_of refusal.row) refusal.place)
 
   -- and one text, but for which cuts are shown
   one_shown : (j : Judged) (t u : List ℕ) (p : Printed j n k links given t) (q : Printed j n k links given u) → shown_cuts j n k links given t p ≡ shown_cuts j n k links given u q → t ≡ u
   unfolding Printed shown_cuts
-  one_shown Accepted t u p q e =
+  one_shown (Ok done) t u p q e =
       p.result
       ∙ ap (result_text n k) (same_bytes p.bytes q.bytes p.finishes.whole q.finishes.whole (λ i. omega (arith, p.finishes.are_bytes i)) (λ i. omega (arith, q.finishes.are_bytes i)) e)
       ∙ sym q.result
-  one_shown (Refused number place) t u p q e = p ∙ sym q
+  one_shown (Err refusal) t u p q e = p ∙ sym q
 
-  one_refusal : (j : Judged) (number place : ℕ) → j ≡ Refused number place → (t : List ℕ) → Printed j n k links given t → t ≡ refusal_line number place
+  one_refusal : (j : Judged) (refusal : Refusal) → j ≡ Err refusal → (t : List ℕ) → Printed j n k links given t → t ≡ refusal_line (number_of refusal.row) refusal.place
   unfolding Printed
-  one_refusal j number place e t p = subst (λ (i : Judged). Printed i n k links given t) e p
+  one_refusal j refusal e t p = subst (λ (i : Judged). Printed i n k links given t) e p
 
-module _ (input out out₁ out₂ : List ℕ) (r s : Written) (a : Answering input out out₁ r) (b : Answering input out out₂ s) where
+module _ (input out out₁ out₂ : List ℕ) (r s : Result ℕ Refusal) (a : Answering input out out₁ r) (b : Answering input out out₂ s) where
   abbrev n : ℕ
   n = bones_in (lines_of input)
 
@@ -123,37 +113,32 @@ module _ (input out out₁ out₂ : List ℕ) (r s : Written) (a : Answering inp
 
   -- one answer
   pub one_answer : r ≡ s
-  unfolding wrote
   one_answer =
       let same = one_size n k links given (first (program_rows input)) (λ e. (accepted_counts input e).0) a.text b.text a.printed b.printed in
-      a.writes.answer ∙ ap (λ (m : ℕ). wrote (refuse (ltb (length out) m) 20 0) m) same ∙ sym b.writes.answer
+      a.writes.answer ∙ ap (λ (m : ℕ). answered (refuse (ltb (length out) m) TextSpace 0) m) same ∙ sym b.writes.answer
 
   same_text : a.text ≡ b.text → out₁ ≡ out₂
   same_text e =
-      a.writes.text_left ∙ ap (λ (t : List ℕ). settled (refuse (ltb (length out) (length t)) 20 0) out (over out 0 t)) e ∙ sym b.writes.text_left
+      a.writes.text_left ∙ ap (λ (t : List ℕ). settled (text_row t (length out)) out (over out 0 t)) e ∙ sym b.writes.text_left
 
   -- and one text, but for which cuts are shown
   pub one_text : shown_cuts (first (program_rows input)) n k links given a.text a.printed ≡ shown_cuts (first (program_rows input)) n k links given b.text b.printed → out₁ ≡ out₂
   one_text e = same_text (one_shown n k links given (first (program_rows input)) a.text b.text a.printed b.printed e)
 
   -- so one, where the input is refused
-  pub one_refused : (number place : ℕ) → first (program_rows input) ≡ Refused number place → out₁ ≡ out₂
-  one_refused number place e =
-      let line = one_refusal n k links given (first (program_rows input)) number place e in
+  pub one_refused : (refusal : Refusal) → first (program_rows input) ≡ Err refusal → out₁ ≡ out₂
+  one_refused refusal e =
+      let line = one_refusal n k links given (first (program_rows input)) refusal e in
       same_text (line a.text a.printed ∙ sym (line b.text b.printed))
 
-unfoldable pub counted : Written → ℕ
-counted (Wrote count) = count
-counted (the-written-Refused number place) = 0
-
 -- a head, 127 cuts, 128 labels and a close are the longest answer: with room for them, every one is printed
-module _ (input out out' : List ℕ) (r : Written) (a : Answering input out out' r) (wide : result_size 127 128 ≤ length out) where
+module _ (input out out' : List ℕ) (r : Result ℕ Refusal) (a : Answering input out out' r) (wide : result_size 127 128 ≤ length out) where
   text_fits : length a.text ≤ length out
   text_fits =
       omega (arith, few_bytes (bones_in (lines_of input)) (threshold_in (lines_of input)) (links_in (lines_of input)) (entries_in (lines_of input)) (first (program_rows input)) (λ e. let c = accepted_counts input e in (c.0, c.1)) a.text a.printed)
 
-  pub room_enough : r ≡ Wrote (length a.text)
-  unfolding refuse wrote
+  pub room_enough : r ≡ Ok (length a.text)
+  unfolding refuse answered
   room_enough = a.writes.answer ∙ rw (le-ltb (length out) (length a.text) text_fits) refl
 
   pub text_left : out' ≡ over out 0 a.text
@@ -161,9 +146,8 @@ module _ (input out out' : List ℕ) (r : Written) (a : Answering input out out'
   text_left = a.writes.text_left ∙ rw (le-ltb (length out) (length a.text) text_fits) refl
 
   -- so many bytes of the space are to be printed
-  pub count_fits : (count : ℕ) → r ≡ Wrote count → count ≤ length out
-  unfolding counted
+  pub count_fits : (count : ℕ) → r ≡ Ok count → count ≤ length out
   count_fits count e =
-      let both : Wrote (length a.text) ≡ Wrote count = sym room_enough ∙ e in
-      let same : length a.text ≡ count = ap counted both in
+      let both : Ok (length a.text) ≡ Ok count = sym room_enough ∙ e in
+      let same : length a.text ≡ count = cc in
       omega (arith, text_fits)

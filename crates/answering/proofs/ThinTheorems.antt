@@ -1,55 +1,42 @@
 -- The theorems about what the program `thin` prints. Its promise settles all of it.
---     one-thinned        two answers that meet the promise are equal
---     writer-accepts     of the input writer's rows only 20 can refuse what thinning kept
---     thinned-then-read  what is printed where nothing refuses is read back as n, k, the links kept, and no cuts
---     thin-room, thin-count-fits    with room for a head, 4,096 links and a close, every answer is printed
---     thin-left          and so it stands at the front of the space
+--     one_thinned        two answers that meet the promise are equal
+--     writer_accepts     of the input writer's rows only 20 can refuse what thinning kept
+--     thinned_then_read  what is printed where nothing refuses is read back as n, k, the links kept, and no cuts
+--     thin_room, thin_count_fits    with room for a head, 4,096 links and a close, every answer is printed
+--     thin_left          and so it stands at the front of the space
 -- Assumes nothing.
-use Prim.Native.Nat.{ℕ, ◌*◌, ◌≤◌}
-use mathlib.Core.Path.{◌≡◌, refl, sym, ◌∙◌, ap, subst}
-use mathlib.Core.Bool.{Bool, true, false, cond, ◌&&◌}
-use mathlib.Core.List.{List, [], ◌∷◌}
-use native.Mathlib.Omega.{arith}
-use lib.Dec.{T, eqb, ltb}
-use lib.ListN.{length, take}
-use borrow.Author.Tests.{le-ltb}
+use Rattle.std.proofs.Common.{ℕ, ◌*◌, ◌≤◌, ◌≡◌, refl, sym, ◌∙◌, subst, arith, Bool, true, false, cond, ◌&&◌, List, [], ◌∷◌, length, take, T, eqb, le-ltb, Result, Ok, Err}
 use Rattle.meaning.specs.declared.Link.{Link}
-use Rattle.meaning.specs.declared.Judged.{Judged}
-use Rattle.meaning.specs.declared.Judged.TheVariants.{Accepted, Refused}
+use Rattle.meaning.specs.declared.Refusal.{Refusal}
 use Rattle.meaning.specs.Bytes.{Bytes}
-use Rattle.meaning.specs.Judge.{refuse, first}
+use Rattle.meaning.specs.Judge.{Judged, Accepted, answered, refuse, first, number_of}
 use Rattle.meaning.specs.Room.{over, settled}
-use Rattle.meaning.proofs.Room.{over_nil}
 use Rattle.meaning.specs.Tally.{pair_tally}
 use Rattle.meaning.specs.Firm.{label}
+use Rattle.meaning.proofs.Room.{over_nil}
 use Rattle.meaning.proofs.Tests.{left_of, right_of}
-use Rattle.links.proofs.LinksRows.{accepted_left, accepted_right}
 use Rattle.links.specs.Records.{kept_links}
+use Rattle.links.proofs.LinksRows.{accepted_left, accepted_right}
 use Rattle.cutting.specs.Names.{names}
 use Rattle.cutting.specs.Record.{entry_size}
 use Rattle.cutting.specs.Rows.{thinning_rows}
 use Rattle.cutting.specs.Calls.{kept}
 use Rattle.frames.specs.Frame.{well_formed}
-use Rattle.frames.proofs.Frames.{well_parts, bytes_bytes_of}
 use Rattle.frames.specs.declared.stage.Stage.TheVariants.{Opening}
+use Rattle.frames.proofs.Frames.{well_parts, bytes_bytes_of}
 use Rattle.texts.specs.declared.Reading.{Reading}
-use Rattle.texts.specs.declared.Reading.TheVariants.{Got}
 use Rattle.texts.specs.Lines.{Line, lines_of, kind, frame, pair}
 use Rattle.texts.specs.Reader.{link_in, links_in, bones_in, threshold_in, reader_rows, Reads}
 use Rattle.texts.specs.Judging.{all_well}
-use Rattle.texts.proofs.ReadsRows.{accepted_well}
-use Rattle.texts.specs.declared.Written.{Written}
-use Rattle.texts.specs.declared.Written.TheVariants.{Wrote}
-use Rattle.texts.specs.Writing.{wrote, Writes}
-use Rattle.texts.proofs.WritesLines.{length_refusal}
+use Rattle.texts.specs.Writing.{text_row, Writes}
 use Rattle.texts.specs.Inputs.{InFrame, AllInFrames, input_text, input_rows}
 use Rattle.texts.specs.Steps.{input_size}
+use Rattle.texts.proofs.ReadsRows.{accepted_well, lines_accepted}
 use Rattle.texts.proofs.RoundTripWritten.{bytes_none}
-use Rattle.texts.proofs.RoundTripCalls.{lines_accepted}
 use Rattle.texts.proofs.Texts.{written_then_read, one_writing, input_length}
+use Rattle.texts.proofs.WritesLines.{length_refusal}
 use Rattle.answering.specs.ThinPrints.{thinned_rows, thin_rows, thinned_text, thin_printed, ThinsText}
 use Rattle.answering.proofs.AfterThin.{kept_holds, few_kept, only-room}
-use Rattle.answering.proofs.Theorems.{counted}
 
 -- ---- links that a text holds
 
@@ -79,12 +66,12 @@ kept_small = kept_holds AllInFrames (λ l ls s. (s.1, λ ks q. (s.0, q)))
 
 few_bytes : (j : Judged) (n k : ℕ) (links : List Link) → (j ≡ Accepted → first (thinning_rows n k true links 4096) ≡ Accepted) → length (thin_printed j n k links) ≤ input_size 4096 0
 unfolding thin_printed thinned_text
-few_bytes Accepted n k links ok = omega (arith, input_length n k (kept n (pair_tally links) k links) [], few_kept n k links (ok refl))
-few_bytes (Refused number place) n k links ok = omega (arith, length_refusal number place)
+few_bytes (Ok done) n k links ok = omega (arith, input_length n k (kept n (pair_tally links) k links) [], few_kept n k links (ok refl))
+few_bytes (Err refusal) n k links ok = omega (arith, length_refusal (number_of refusal.row) refusal.place)
 
 -- ---- the answer to an input
 
-pub one_thinned : (input out out₁ out₂ : List ℕ) (r s : Written) → ThinsText input out out₁ r → ThinsText input out out₂ s → (r ≡ s) × (out₁ ≡ out₂)
+pub one_thinned : (input out out₁ out₂ : List ℕ) (r s : Result ℕ Refusal) → ThinsText input out out₁ r → ThinsText input out out₂ s → (r ≡ s) × (out₁ ≡ out₂)
 one_thinned input out out₁ out₂ r s a b = one_writing _ _ out out₁ out₂ r s a b
 
 module _ (input : List ℕ) where
@@ -112,33 +99,33 @@ module _ (input : List ℕ) where
         let lines = lines_accepted input 4096 (entry_size * 127) (accepted_left (reader_rows input 4096 (entry_size * 127)) _ accepted) in
         kept_small (names 128 (label n (pair_tally links) k)) links (links_small (lines_of input) (accepted_well (lines_of input) Opening 0 lines))
 
-    pub writer_accepts : (room : ℕ) → first (input_rows n k stay [] room) ≡ refuse (ltb room (length (input_text n k stay []))) 20 0
+    pub writer_accepts : (room : ℕ) → first (input_rows n k stay [] room) ≡ text_row (input_text n k stay []) room
     writer_accepts = only-room n k links thinned
 
-    module _ (out out' : List ℕ) (count : ℕ) (answer : ThinsText input out out' (Wrote count)) where
-      by_writer : Writes (first (input_rows n k stay [] (length out))) (input_text n k stay []) out out' (Wrote count)
+    module _ (out out' : List ℕ) (count : ℕ) (answer : ThinsText input out out' (Ok count)) where
+      by_writer : Writes (first (input_rows n k stay [] (length out))) (input_text n k stay []) out out' (Ok count)
       unfolding thin_printed thinned_text
       by_writer =
-          subst (λ (j : Judged). Writes j (input_text n k stay []) out out' (Wrote count)) (sym (writer_accepts (length out)))
-          (subst (λ (j : Judged). Writes (refuse (ltb (length out) (length (thin_printed j n k links))) 20 0) (thin_printed j n k links) out out' (Wrote count)) accepted answer)
+          subst (λ (j : Judged). Writes j (input_text n k stay []) out out' (Ok count)) (sym (writer_accepts (length out)))
+          (subst (λ (j : Judged). Writes (text_row (thin_printed j n k links) (length out)) (thin_printed j n k links) out out' (Ok count)) accepted answer)
 
-      pub thinned_then_read : (link_space link_space' : List Link) (space space' : List ℕ) (r : Reading) → length stay ≤ length link_space → Reads (take count out') link_space link_space' space space' r
-          → (r ≡ Got n k (length stay) 0) × (link_space' ≡ over link_space 0 stay) × (space' ≡ space)
+      pub thinned_then_read : (link_space link_space' : List Link) (space space' : List ℕ) (r : Result Reading Refusal) → length stay ≤ length link_space → Reads (take count out') link_space link_space' space space' r
+          → (r ≡ Ok (record { n = n; k = k; links = length stay; cuts = 0 })) × (link_space' ≡ over link_space 0 stay) × (space' ≡ space)
       thinned_then_read link_space link_space' space space' r fits reads =
           let back = written_then_read n k stay [] out out' count small bytes_none by_writer link_space link_space' space space' r fits (omega arith) reads in
           (back.0, back.1, back.2 ∙ over_nil space 0)
 
 -- ---- room
 
-module _ (input out out' : List ℕ) (r : Written) (a : ThinsText input out out' r) (wide : input_size 4096 0 ≤ length out) where
+module _ (input out out' : List ℕ) (r : Result ℕ Refusal) (a : ThinsText input out out' r) (wide : input_size 4096 0 ≤ length out) where
   abbrev text : List ℕ
   text = thin_printed (first (thin_rows input)) (bones_in (lines_of input)) (threshold_in (lines_of input)) (links_in (lines_of input))
 
   text_fits : length text ≤ length out
   text_fits = omega (arith, few_bytes (first (thin_rows input)) (bones_in (lines_of input)) (threshold_in (lines_of input)) (links_in (lines_of input)) (thinned input))
 
-  pub thin_room : r ≡ Wrote (length text)
-  unfolding refuse wrote
+  pub thin_room : r ≡ Ok (length text)
+  unfolding refuse answered
   thin_room = a.answer ∙ rw (le-ltb (length out) (length text) text_fits) refl
 
   pub thin_left : out' ≡ over out 0 text
@@ -146,9 +133,8 @@ module _ (input out out' : List ℕ) (r : Written) (a : ThinsText input out out'
   thin_left = a.text_left ∙ rw (le-ltb (length out) (length text) text_fits) refl
 
   -- so many bytes of the space are to be printed
-  pub thin_count_fits : (count : ℕ) → r ≡ Wrote count → count ≤ length out
-  unfolding counted
+  pub thin_count_fits : (count : ℕ) → r ≡ Ok count → count ≤ length out
   thin_count_fits count e =
-      let both : Wrote (length text) ≡ Wrote count = sym thin_room ∙ e in
-      let same : length text ≡ count = ap counted both in
+      let both : Ok (length text) ≡ Ok count = sym thin_room ∙ e in
+      let same : length text ≡ count = cc in
       omega (arith, text_fits)

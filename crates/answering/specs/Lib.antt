@@ -2,4 +2,3 @@
 pub mod Prints
 pub mod Steps
 pub mod ThinPrints
-pub mod ThinSteps

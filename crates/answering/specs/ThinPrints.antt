@@ -1,14 +1,12 @@
 -- What the program `thin` prints for an input text: the frame of the first refusal alone, or the input text of the links that stay inside groups.
-use Rattle.std.specs.Prelude.{ℕ, ◌*◌, true, List, [], ◌++◌}
+use Rattle.std.specs.Prelude.{ℕ, ◌*◌, true, List, [], ◌++◌, Result, Ok, Err}
 use Rattle.meaning.specs.declared.Link.{Link}
-use Rattle.meaning.specs.declared.Judged.{Judged}
-use Rattle.meaning.specs.declared.Judged.TheVariants.{Accepted, Refused}
-use Rattle.meaning.specs.Judge.{first}
+use Rattle.meaning.specs.declared.Refusal.{Refusal}
+use Rattle.meaning.specs.Judge.{Judged, first, number_of}
 use Rattle.meaning.specs.Tally.{pair_tally}
 use Rattle.cutting.specs.Record.{entry_size}
 use Rattle.cutting.specs.Rows.{thinning_rows}
 use Rattle.cutting.specs.Calls.{kept}
-use Rattle.texts.specs.declared.Written.{Written}
 use Rattle.texts.specs.Lines.{lines_of}
 use Rattle.texts.specs.Reader.{links_in, bones_in, threshold_in, reader_rows}
 use Rattle.texts.specs.Kinds.{refusal_line}
@@ -29,13 +27,13 @@ thinned_text n k links = input_text n k (kept n (pair_tally links) k links) []
 
 -- what is printed, by the first refusal
 unfoldable pub thin_printed : Judged → ℕ → ℕ → List Link → List ℕ
-thin_printed Accepted n k links = thinned_text n k links
-thin_printed (Refused number place) n k links = refusal_line number place
+thin_printed (Ok done) n k links = thinned_text n k links
+thin_printed (Err refusal) n k links = refusal_line (number_of refusal.row) refusal.place
 
 -- it stands at the front of the space lent for it, the rest as it was; or the answer is refusal 20, and nothing is written
-abbrev pub ThinAnswers : Judged → ℕ → ℕ → List Link → List ℕ → List ℕ → Written → Type 0
+abbrev pub ThinAnswers : Judged → ℕ → ℕ → List Link → List ℕ → List ℕ → Result ℕ Refusal → Type 0
 ThinAnswers rows n k links out out' r = WritesWhole (thin_printed rows n k links) out out' r
 
 -- the program's answer to an input text
-abbrev pub ThinsText : List ℕ → List ℕ → List ℕ → Written → Type 0
+abbrev pub ThinsText : List ℕ → List ℕ → List ℕ → Result ℕ Refusal → Type 0
 ThinsText input out out' r = ThinAnswers (first (thin_rows input)) (bones_in (lines_of input)) (threshold_in (lines_of input)) (links_in (lines_of input)) out out' r

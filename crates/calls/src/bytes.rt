@@ -1,8 +1,8 @@
 // The calls from C over links as bytes, four a link. In C each slice is a pointer and then a length.
 ghost use Rattle.cutting.specs.Calls.{CheckingBytes, GroupingBytes, ThinningBytes};
-ghost use Rattle.calls.specs.Told.{told, told_thinned, Telling};
+ghost use Rattle.calls.specs.Told.{told, told_count, Telling};
 
-use crate::told::{Told, ToldCount, tell, tell_kept};
+use crate::told::{Told, ToldCount};
 use cutting::{checking, grouping, thinning};
 
 #[unsafe(no_mangle)]
@@ -16,7 +16,7 @@ pub extern "C" fn bones_grouping(
 ) -> Told
     ensures { Telling told (GroupingBytes n k links.now «record».now labels.old labels.new space.old space.new) result }
 {
-    tell(grouping(n, k, links, record, labels, space))
+    grouping(n, k, links, record, labels, space).into()
 }
 
 #[unsafe(no_mangle)]
@@ -29,12 +29,12 @@ pub extern "C" fn bones_checking(
 ) -> Told
     ensures { Telling told (CheckingBytes n k links.now «record».now labels.old labels.new) result }
 {
-    tell(checking(n, k, links, record, labels))
+    checking(n, k, links, record, labels).into()
 }
 
 #[unsafe(no_mangle)]
 pub extern "C" fn bones_thinning(n: u64, k: u64, links: &[u8], space: &mut [u8]) -> ToldCount
-    ensures { Telling told_thinned (ThinningBytes n k links.now space.old space.new) result }
+    ensures { Telling told_count (ThinningBytes n k links.now space.old space.new) result }
 {
-    tell_kept(thinning(n, k, links, space))
+    thinning(n, k, links, space).into()
 }

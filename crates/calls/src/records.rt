@@ -1,10 +1,11 @@
 // The calls from C over link records: in C an array of struct bones_link, a pointer and then a number of links.
+// Those over bytes are no generic functions with these: a name in C stands for one function.
 ghost use Rattle.std.specs.Prelude.{true};
 ghost use Rattle.cutting.specs.Calls.{Checking, Grouping, ThinningRecords};
-ghost use Rattle.calls.specs.Told.{told, told_thinned, Telling};
+ghost use Rattle.calls.specs.Told.{told, told_count, Telling};
 
-use crate::told::{Told, ToldCount, tell, tell_kept};
-use cutting::{checking_records, grouping_records, thinning_records};
+use crate::told::{Told, ToldCount};
+use cutting::{checking, grouping, thinning};
 use meaning::Link;
 
 #[unsafe(no_mangle)]
@@ -18,7 +19,7 @@ pub extern "C" fn bones_grouping_records(
 ) -> Told
     ensures { Telling told (Grouping n k true links.now «record».now labels.old labels.new space.old space.new) result }
 {
-    tell(grouping_records(n, k, links, record, labels, space))
+    grouping(n, k, links, record, labels, space).into()
 }
 
 #[unsafe(no_mangle)]
@@ -31,7 +32,7 @@ pub extern "C" fn bones_checking_records(
 ) -> Told
     ensures { Telling told (Checking n k true links.now «record».now labels.old labels.new) result }
 {
-    tell(checking_records(n, k, links, record, labels))
+    checking(n, k, links, record, labels).into()
 }
 
 #[unsafe(no_mangle)]
@@ -41,7 +42,7 @@ pub extern "C" fn bones_thinning_records(
     links: &[Link],
     space: &mut [Link],
 ) -> ToldCount
-    ensures { Telling told_thinned (ThinningRecords n k links.now space.old space.new) result }
+    ensures { Telling told_count (ThinningRecords n k links.now space.old space.new) result }
 {
-    tell_kept(thinning_records(n, k, links, space))
+    thinning(n, k, links, space).into()
 }

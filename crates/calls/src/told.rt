@@ -1,14 +1,15 @@
-// What the calls from C tell: each answer in numbers. A number that says nothing where a call refused, or where it did not, is nought.
-ghost use Rattle.std.specs.Prelude.{◌≡◌, cond};
-ghost use Rattle.calls.specs.Told.{told, told_thinned, told_written, told_reading};
+// What the calls from C tell: each answer in numbers, since C has no Result. A number that says nothing where a call refused, or where it did not, is nought.
+ghost use Rattle.std.specs.Prelude.{◌≡◌};
+ghost use Rattle.calls.specs.Told.{told, told_count, told_reading};
 
-use cutting::{Answer, Thinned};
-use texts::{Reading, Written};
+use cutting::Answer;
+use meaning::Refusal;
+use texts::Reading;
 
 // Of grouping and checking: the refusal's number, nought where nothing is refused, and its place; the number of groups or piles, and whether the run of
 // cuts is finished.
 #[repr(C)]
-#[derive(Clone, Copy)]
+#[derive(Clone, Copy, Default)]
 pub struct Told {
     pub number: u32,
     pub place: u32,
@@ -18,7 +19,7 @@ pub struct Told {
 
 // Of thinning and the writers: the refusal, or how many links were kept, how many bytes written.
 #[repr(C)]
-#[derive(Clone, Copy)]
+#[derive(Clone, Copy, Default)]
 pub struct ToldCount {
     pub number: u32,
     pub place: u32,
@@ -27,7 +28,7 @@ pub struct ToldCount {
 
 // Of the reader: the refusal, or the head's numbers, and how many links and cuts were read.
 #[repr(C)]
-#[derive(Clone, Copy)]
+#[derive(Clone, Copy, Default)]
 pub struct Input {
     pub number: u32,
     pub place: u32,
@@ -37,85 +38,63 @@ pub struct Input {
     pub cuts: u32,
 }
 
-// A test as a number.
-fn one_if(t: bool) -> u32
-    ensures { result ≡ cond t 1 0 }
-{
-    if t { 1 } else { 0 }
-}
+impl From<Result<Answer, Refusal>> for Told {
+    ghost from_gives = { λ answer r. r ≡ told answer };
 
-pub(crate) fn tell(answer: Answer) -> Told
-    ensures { result ≡ told answer }
-{
-    match answer {
-        Answer::Refused { number, place } => Told {
-            number,
-            place,
-            count: 0,
-            finished: 0,
-        },
-        Answer::Gave { count, finished } => Told {
-            number: 0,
-            place: 0,
-            count,
-            finished: one_if(finished),
-        },
+    #[tactic(auto, unfolding(crate::specs::Told::told))]
+    fn from(answer: Result<Answer, Refusal>) -> Told {
+        match answer {
+            Ok(Answer { count, finished }) => Told {
+                count,
+                finished: u32::from(finished),
+                ..Told::default()
+            },
+            Err(Refusal { row, place }) => Told {
+                number: u32::from(u8::from(row)),
+                place,
+                ..Told::default()
+            },
+        }
     }
 }
 
-pub(crate) fn tell_kept(thinned: Thinned) -> ToldCount
-    ensures { result ≡ told_thinned thinned }
-{
-    match thinned {
-        Thinned::Refused { number, place } => ToldCount {
-            number,
-            place,
-            count: 0,
-        },
-        Thinned::Kept { count } => ToldCount {
-            number: 0,
-            place: 0,
-            count,
-        },
+impl From<Result<u32, Refusal>> for ToldCount {
+    ghost from_gives = { λ counted r. r ≡ told_count counted };
+
+    #[tactic(auto, unfolding(crate::specs::Told::told_count))]
+    fn from(counted: Result<u32, Refusal>) -> ToldCount {
+        match counted {
+            Ok(count) => ToldCount {
+                count,
+                ..ToldCount::default()
+            },
+            Err(Refusal { row, place }) => ToldCount {
+                number: u32::from(u8::from(row)),
+                place,
+                ..ToldCount::default()
+            },
+        }
     }
 }
 
-pub(crate) fn tell_written(written: Written) -> ToldCount
-    ensures { result ≡ told_written written }
-{
-    match written {
-        Written::Refused { number, place } => ToldCount {
-            number,
-            place,
-            count: 0,
-        },
-        Written::Wrote { count } => ToldCount {
-            number: 0,
-            place: 0,
-            count,
-        },
-    }
-}
+impl From<Result<Reading, Refusal>> for Input {
+    ghost from_gives = { λ reading r. r ≡ told_reading reading };
 
-pub(crate) fn tell_read(reading: Reading) -> Input
-    ensures { result ≡ told_reading reading }
-{
-    match reading {
-        Reading::Refused { number, place } => Input {
-            number,
-            place,
-            n: 0,
-            k: 0,
-            links: 0,
-            cuts: 0,
-        },
-        Reading::Got { n, k, links, cuts } => Input {
-            number: 0,
-            place: 0,
-            n: n as u32,
-            k: k as u32,
-            links,
-            cuts,
-        },
+    #[tactic(auto, unfolding(crate::specs::Told::told_reading))]
+    fn from(reading: Result<Reading, Refusal>) -> Input {
+        match reading {
+            Ok(Reading { n, k, links, cuts }) => Input {
+                n: u32::from(n),
+                k: u32::from(k),
+                links,
+                cuts,
+                ..Input::default()
+            },
+            Err(Refusal { row, place }) => Input {
+                number: u32::from(u8::from(row)),
+                place,
+                ..Input::default()
+            },
+        }
     }
 }

@@ -2,9 +2,9 @@
 ghost use Rattle.texts.specs.Reader.{Reads};
 ghost use Rattle.texts.specs.Inputs.{WritingInput};
 ghost use Rattle.texts.specs.Writers.{WritingResult};
-ghost use Rattle.calls.specs.Told.{told_written, told_reading, Telling};
+ghost use Rattle.calls.specs.Told.{told_count, told_reading, Telling};
 
-use crate::told::{Input, ToldCount, tell_read, tell_written};
+use crate::told::{Input, ToldCount};
 use meaning::Link;
 use texts::input::write_input;
 use texts::reader::read;
@@ -14,7 +14,7 @@ use texts::result::write_result;
 pub extern "C" fn bones_read(text: &[u8], links: &mut [Link], space: &mut [u8]) -> Input
     ensures { Telling told_reading (Reads text.now links.old links.new space.old space.new) result }
 {
-    tell_read(read(text, links, space))
+    read(text, links, space).into()
 }
 
 #[unsafe(no_mangle)]
@@ -25,9 +25,9 @@ pub extern "C" fn bones_write_input(
     record: &[u8],
     text: &mut [u8],
 ) -> ToldCount
-    ensures { Telling told_written (WritingInput n k links.now «record».now text.old text.new) result }
+    ensures { Telling told_count (WritingInput n k links.now «record».now text.old text.new) result }
 {
-    tell_written(write_input(n, k, links, record, text))
+    write_input(n, k, links, record, text).into()
 }
 
 #[unsafe(no_mangle)]
@@ -38,7 +38,7 @@ pub extern "C" fn bones_write_result(
     record: &[u8],
     text: &mut [u8],
 ) -> ToldCount
-    ensures { Telling told_written (WritingResult n k links.now «record».now text.old text.new) result }
+    ensures { Telling told_count (WritingResult n k links.now «record».now text.old text.new) result }
 {
-    tell_written(write_result(n, k, links, record, text))
+    write_result(n, k, links, record, text).into()
 }

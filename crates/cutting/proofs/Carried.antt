@@ -9,9 +9,9 @@ use lib.Dec.{T, eqb}
 use lib.ListN.{length, take, drop, replicate, length-replicate}
 use borrow.Author.Tests.{le-ltb, ne_eqb}
 use Rattle.meaning.specs.declared.Link.{Link}
-use Rattle.meaning.specs.declared.Judged.{Judged}
-use Rattle.meaning.specs.declared.Judged.TheVariants.{Accepted, Refused}
-use Rattle.meaning.specs.Judge.{refuse, first}
+use Rattle.meaning.specs.declared.Refusal.{Refusal}
+use Rattle.std.proofs.Common.{Result, Ok, Err}
+use Rattle.meaning.specs.Judge.{Judged, Accepted, answered, refuse, first}
 use Rattle.meaning.specs.Tally.{Tally, pair_tally}
 use Rattle.meaning.specs.Firm.{groups}
 use Rattle.meaning.specs.Heap.{Heap, start, LawfulRun, left, piles, finished}
@@ -28,7 +28,7 @@ use Rattle.cutting.specs.RecordRows.{record_row, record_rows}
 use Rattle.cutting.specs.Rows.{label_row, space_row, checking_rows, grouping_rows}
 use Rattle.meaning.specs.Room.{over, settled}
 use Rattle.cutting.specs.Names.{names}
-use Rattle.cutting.specs.Runs.{answered, Checked, Continued, Recorded, Grouped}
+use Rattle.cutting.specs.Runs.{answer_of, Checked, Continued, Recorded, Grouped}
 use Rattle.cutting.proofs.Small.{links_total, length-tallied}
 use Rattle.cutting.proofs.Alike.{Alike, label_alike, groups_alike, finished_alike, entries_alike, run_alike}
 
@@ -37,10 +37,10 @@ module _ (n : ℕ) (v w : Tally) (alike : Alike n v w) (k : ℕ) where
   unfolding record_rows
   rows_alike bytes = ap (λ (js : List Judged). record_row n (length bytes) ∷ js) (entries_alike n v w alike k (cuts_of bytes) start 0)
 
-  pub checked_alike : (rows rows' : List Judged) (bytes labels labels' : List ℕ) (r : Answer) → first rows ≡ first rows' → Checked rows n v k bytes labels labels' r → Checked rows' n w k bytes labels labels' r
+  pub checked_alike : (rows rows' : List Judged) (bytes labels labels' : List ℕ) (r : Result Answer Refusal) → first rows ≡ first rows' → Checked rows n v k bytes labels labels' r → Checked rows' n w k bytes labels labels' r
   checked_alike rows rows' bytes labels labels' r e c =
       record {
-        answer = c.answer ∙ ap₂ (λ (j : Judged) (t : Bool). answered j (piles n (left n start (cuts_of bytes))) t) e (finished_alike n v w alike k (left n start (cuts_of bytes)));
+        answer = c.answer ∙ ap₂ (λ (j : Judged) (t : Bool). answered j (answer_of (piles n (left n start (cuts_of bytes))) t)) e (finished_alike n v w alike k (left n start (cuts_of bytes)));
         names_after = c.names_after ∙ ap (λ (j : Judged). settled j labels (over labels 0 (names n (left n start (cuts_of bytes))))) e;
       }
 
@@ -56,13 +56,13 @@ module _ (n : ℕ) (v w : Tally) (alike : Alike n v w) (k : ℕ) where
 
   recorded_alike : (j : Judged) (bytes space space' : List ℕ) → Recorded j n v k bytes space space' → Recorded j n w k bytes space space'
   unfolding Recorded
-  recorded_alike Accepted bytes space space' c = continued_alike bytes space space' c
-  recorded_alike (Refused number place) bytes space space' c = c
+  recorded_alike (Ok done) bytes space space' c = continued_alike bytes space space' c
+  recorded_alike (Err refusal) bytes space space' c = c
 
-  pub grouped_alike : (rows rows' : List Judged) (bytes labels labels' space space' : List ℕ) (r : Answer) → first rows ≡ first rows' → Grouped rows n v k bytes labels labels' space space' r → Grouped rows' n w k bytes labels labels' space space' r
+  pub grouped_alike : (rows rows' : List Judged) (bytes labels labels' space space' : List ℕ) (r : Result Answer Refusal) → first rows ≡ first rows' → Grouped rows n v k bytes labels labels' space space' r → Grouped rows' n w k bytes labels labels' space space' r
   grouped_alike rows rows' bytes labels labels' space space' r e c =
       record {
-        answer = c.answer ∙ ap₂ (λ (j : Judged) (m : ℕ). answered j m true) e (groups_alike n v w alike k);
+        answer = c.answer ∙ ap₂ (λ (j : Judged) (m : ℕ). answered j (answer_of m true)) e (groups_alike n v w alike k);
         labels_left = c.labels_left ∙ ap₂ (λ (j : Judged) (h : Heap). settled j labels (over labels 0 (names n h))) e (label_alike n v w alike k);
         record_left = subst (λ (j : Judged). Recorded j n w k bytes space space') e (recorded_alike (first rows) bytes space space' c.record_left);
       }
@@ -110,10 +110,10 @@ module _ (n k : ℕ) (good : Bool) (links : List Link) (bytes : List ℕ) (label
       ap (λ (js : List Judged). first (label_row n label_room ∷ js)) (rows_alike n v (pair_tally links) alike k bytes)
       ∙ sym (first_accepted (table_rows n k good links) (label_row n label_room ∷ record_rows n (pair_tally links) k bytes) accepted)
 
-  pub checking_stop : (number place : ℕ) → first (table_rows n k good links) ≡ Refused number place → first (checking_rows n k good links bytes label_room) ≡ Refused number place
+  pub checking_stop : (refusal : Refusal) → first (table_rows n k good links) ≡ Err refusal → first (checking_rows n k good links bytes label_room) ≡ Err refusal
   unfolding checking_rows
-  checking_stop number place e =
-      first-refused (table_rows n k good links) (label_row n label_room ∷ record_rows n (pair_tally links) k bytes) number place e
+  checking_stop refusal e =
+      first-refused (table_rows n k good links) (label_row n label_room ∷ record_rows n (pair_tally links) k bytes) refusal e
 
   module _ (record_room : ℕ) where
     pub grouping_core : (v : Tally) → Alike n v (pair_tally links) → first (table_rows n k good links) ≡ Accepted
@@ -123,7 +123,7 @@ module _ (n k : ℕ) (good : Bool) (links : List Link) (bytes : List ℕ) (label
         ap (λ (js : List Judged). first (label_row n label_room ∷ space_row n record_room ∷ js)) (rows_alike n v (pair_tally links) alike k bytes)
         ∙ sym (first_accepted (table_rows n k good links) (label_row n label_room ∷ space_row n record_room ∷ record_rows n (pair_tally links) k bytes) accepted)
 
-    pub grouping_stop : (number place : ℕ) → first (table_rows n k good links) ≡ Refused number place → first (grouping_rows n k good links bytes label_room record_room) ≡ Refused number place
+    pub grouping_stop : (refusal : Refusal) → first (table_rows n k good links) ≡ Err refusal → first (grouping_rows n k good links bytes label_room record_room) ≡ Err refusal
     unfolding grouping_rows
-    grouping_stop number place e =
-        first-refused (table_rows n k good links) (label_row n label_room ∷ space_row n record_room ∷ record_rows n (pair_tally links) k bytes) number place e
+    grouping_stop refusal e =
+        first-refused (table_rows n k good links) (label_row n label_room ∷ space_row n record_room ∷ record_rows n (pair_tally links) k bytes) refusal e

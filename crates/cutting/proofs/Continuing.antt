@@ -9,8 +9,8 @@ use lib.Dec.{T, eqb, ltb}
 use lib.ListN.{length, take, drop}
 use lib.Seq.{take_at, drop-drop, drop-append-add}
 use borrow.Author.Tests.{eqb-true, ltb-false, not-false}
-use Rattle.meaning.specs.declared.Judged.TheVariants.{Accepted}
-use Rattle.meaning.specs.Judge.{first}
+use Rattle.meaning.specs.declared.Row.TheVariants.{Record}
+use Rattle.meaning.specs.Judge.{Accepted, first}
 use Rattle.meaning.specs.Tally.{Tally}
 use Rattle.meaning.specs.Firm.{label, groups}
 use Rattle.meaning.specs.Heap.{Heap, start, LawfulRun, left, piles, finished}
@@ -18,8 +18,8 @@ use Rattle.weighing.specs.Side.{heap_of}
 use Rattle.cutting.specs.Record.{entry_size, cuts_in, cuts_of}
 use Rattle.cutting.specs.RecordRows.{record_row, record_rows}
 use Rattle.cutting.specs.Finish.{Begun, Ended}
-use Rattle.meaning.specs.Room.{over}
-use Rattle.meaning.proofs.Room.{over_front, length_over}
+use Rattle.meaning.specs.Room.{over, fitted}
+use Rattle.meaning.proofs.Room.{over_front, length_over, fitted_all}
 use Rattle.cutting.specs.Names.{names}
 use Rattle.cutting.specs.Runs.{Sound, Continued}
 use Rattle.cutting.proofs.Names.{names_same}
@@ -41,7 +41,7 @@ neither false b e = (refl, e)
 pub record_sound : (n : ℕ) (w : Tally) (k : ℕ) (bytes : List ℕ) → first (record_rows n w k bytes) ≡ Accepted → Sound n w k bytes
 unfolding record_rows record_row cuts_of
 record_sound n w k bytes e =
-    let nine = row_accepted _ 9 0 _ e in
+    let nine = row_accepted _ Record 0 _ e in
     let fits = neither (not (eqb (length bytes % entry_size) 0)) (ltb (n - 1) (length bytes / entry_size)) nine.0 in
     record {
       whole = eqb-true (length bytes % entry_size) 0 (not-false _ fits.0);
@@ -56,6 +56,10 @@ module _ (n : ℕ) (w : Tally) (k : ℕ) (bytes space : List ℕ) (s : Sound n w
 
   fits : length bytes ≤ length space
   fits = omega (arith, s.whole, s.few)
+
+  -- they are put there whole
+  pub given_whole : {copied : List ℕ} → copied ≡ fitted space 0 bytes → copied ≡ over space 0 bytes
+  given_whole e = e ∙ fitted_all space 0 bytes (omega (arith, fits))
 
   begun_is : begun ≡ bytes ++ drop (length bytes) space
   unfolding begun

@@ -9,9 +9,9 @@ use mathlib.Core.List.{List}
 use native.Mathlib.Omega.{arith}
 use lib.ListN.{length, take, length-take}
 use Rattle.meaning.specs.declared.Link.{Link}
-use Rattle.meaning.specs.declared.Judged.{Judged}
-use Rattle.meaning.specs.declared.Judged.TheVariants.{Accepted, Refused}
-use Rattle.meaning.specs.Judge.{first}
+use Rattle.meaning.specs.declared.Refusal.{Refusal}
+use Rattle.std.proofs.Common.{Result, Ok, Err}
+use Rattle.meaning.specs.Judge.{Judged, Accepted, answered, first}
 use Rattle.meaning.specs.Tally.{pair_tally}
 use Rattle.meaning.specs.Firm.{label, groups}
 use Rattle.meaning.specs.Heap.{start, piles, LawfulRun, left, weights, between, finished}
@@ -20,14 +20,13 @@ use Rattle.meaning.proofs.Ends.{weights-between}
 use Rattle.links.specs.Links.{table_rows}
 use Rattle.links.proofs.LinksRows.{Counted, table_counted}
 use Rattle.cutting.specs.declared.Answer.{Answer}
-use Rattle.cutting.specs.declared.Answer.TheVariants.{Gave, Refused as Refused·answer}
 use Rattle.cutting.specs.Record.{entry_size, cuts_of}
 use Rattle.cutting.specs.RecordRows.{record_rows, entries_rows}
 use Rattle.cutting.specs.Rows.{checking_rows, grouping_rows}
 use Rattle.meaning.specs.Room.{over}
 use Rattle.meaning.proofs.Room.{settled_new}
 use Rattle.cutting.specs.Names.{names}
-use Rattle.cutting.specs.Runs.{answered, Recorded, Continued, Sound, Stopped}
+use Rattle.cutting.specs.Runs.{answer_of, Recorded, Continued, Sound, Stopped}
 use Rattle.cutting.specs.Calls.{Checking, Grouping}
 use Rattle.cutting.proofs.Names.{names_same}
 use Rattle.cutting.proofs.Cuts.{length_cuts}
@@ -58,13 +57,13 @@ module _ (n k : ℕ) (good : Bool) (links : List Link) (judged : first (table_ro
       sym (checking_core n k good links bytes label_room (pair_tally links) (λ i j hi hj. refl) judged) ∙ label_fits n label_room _ l ∙ record_accepted bytes s
 
   -- any lawful run is kept, continued and ends at the labels
-  pub kept_and_continued : (bytes labels labels' space space' : List ℕ) (r : Answer) → n ≤ length labels → entry_size * (n - 1) ≤ length space → Sound n (pair_tally links) k bytes
+  pub kept_and_continued : (bytes labels labels' space space' : List ℕ) (r : Result Answer Refusal) → n ≤ length labels → entry_size * (n - 1) ≤ length space → Sound n (pair_tally links) k bytes
       → Grouping n k good links bytes labels labels' space space' r
-      → (r ≡ Gave (groups n (pair_tally links) k) true) × (labels' ≡ over labels 0 (names n (label n (pair_tally links) k))) × Continued n (pair_tally links) k bytes space space'
+      → (r ≡ Ok (answer_of (groups n (pair_tally links) k) true)) × (labels' ≡ over labels 0 (names n (label n (pair_tally links) k))) × Continued n (pair_tally links) k bytes space space'
   unfolding answered Recorded
   kept_and_continued bytes labels labels' space space' r l m s g =
       let e = grouping_accepted bytes (length labels) (length space) l m s in (
-        g.answer ∙ ap (λ (j : Judged). answered j (groups n (pair_tally links) k) true) e,
+        g.answer ∙ ap (λ (j : Judged). answered j (answer_of (groups n (pair_tally links) k) true)) e,
         g.labels_left ∙ settled_new labels _ e,
         subst (λ (j : Judged). Recorded j n (pair_tally links) k bytes space space') e g.record_left,
       )
@@ -103,29 +102,29 @@ module _ (n k : ℕ) (good : Bool) (links : List Link) (judged : first (table_ro
     own_weights = weights-between n (pair_tally links) k (pair_tally_symmetric links) (cuts_of own) c.lawful c.done
 
     -- handed to checking it is finished, with the same count and labels
-    pub own_checked : (labels labels' : List ℕ) (r : Answer) → n ≤ length labels → Checking n k good links own labels labels' r
-        → (r ≡ Gave (groups n (pair_tally links) k) true) × (labels' ≡ over labels 0 (names n (label n (pair_tally links) k)))
+    pub own_checked : (labels labels' : List ℕ) (r : Result Answer Refusal) → n ≤ length labels → Checking n k good links own labels labels' r
+        → (r ≡ Ok (answer_of (groups n (pair_tally links) k) true)) × (labels' ≡ over labels 0 (names n (label n (pair_tally links) k)))
     unfolding answered own
     own_checked labels labels' r l g =
         let e = checking_accepted own (length labels) l own_sound in
         let p = run_groups n (pair_tally links) k counted.some_bones (cuts_of own) c.lawful c.done in
         let h = names_same n (left n start (cuts_of own)) (label n (pair_tally links) k) (run_labels n (pair_tally links) k counted.some_bones (cuts_of own) c.lawful c.done) in (
-          g.answer ∙ ap (λ (j : Judged). answered j (piles n (left n start (cuts_of own))) (finished n (pair_tally links) k (left n start (cuts_of own)))) e
-              ∙ ap₂ Gave p (Rattle.meaning.proofs.Tests.is_true (finished n (pair_tally links) k (left n start (cuts_of own))) c.done),
+          g.answer ∙ ap (λ (j : Judged). answered j (answer_of (piles n (left n start (cuts_of own))) (finished n (pair_tally links) k (left n start (cuts_of own))))) e
+              ∙ ap₂ (λ (m : ℕ) (t : Bool). answered Accepted (answer_of m t)) p (Rattle.meaning.proofs.Tests.is_true (finished n (pair_tally links) k (left n start (cuts_of own))) c.done),
           g.names_after ∙ settled_new labels _ e ∙ ap (over labels 0) h,
         )
 
     -- grouped again, nothing is added to it
-    pub own_stays : (labels labels' room room' : List ℕ) (r : Answer) → n ≤ length labels → entry_size * (n - 1) ≤ length room
+    pub own_stays : (labels labels' room room' : List ℕ) (r : Result Answer Refusal) → n ≤ length labels → entry_size * (n - 1) ≤ length room
         → Grouping n k good links own labels labels' room room' r → take (entry_size * (groups n (pair_tally links) k - 1)) room' ≡ own
     own_stays labels labels' room room' r l m g =
         ap (λ (x : ℕ). take x room') (sym own_length) ∙ (kept_and_continued own labels labels' room room' r l m own_sound g).2.given
 
   -- a whole record of at most n − 1 entries is refused by checking exactly if its run is not lawful, at the first entry that is not
-  pub judged_by_checking : (bytes labels labels' : List ℕ) (r : Answer) → n ≤ length labels → length bytes % entry_size ≡ 0 → length bytes / entry_size ≤ n - 1
+  pub judged_by_checking : (bytes labels labels' : List ℕ) (r : Result Answer Refusal) → n ≤ length labels → length bytes % entry_size ≡ 0 → length bytes / entry_size ≤ n - 1
       → Checking n k good links bytes labels labels' r
-      → (LawfulRun n (pair_tally links) k start (cuts_of bytes) × (r ≡ Gave (piles n (left n start (cuts_of bytes))) (finished n (pair_tally links) k (left n start (cuts_of bytes)))))
-      ⊎ ((number : ℕ) × (place : ℕ) × (r ≡ Refused·answer number place) × Stopped n (pair_tally links) k start 0 (cuts_of bytes) number place)
+      → (LawfulRun n (pair_tally links) k start (cuts_of bytes) × (r ≡ Ok (answer_of (piles n (left n start (cuts_of bytes))) (finished n (pair_tally links) k (left n start (cuts_of bytes))))))
+      ⊎ ((refusal : Refusal) × (r ≡ Err refusal) × Stopped n (pair_tally links) k start 0 (cuts_of bytes) refusal)
   unfolding answered cuts_of
   judged_by_checking bytes labels labels' r l whole few g = go (first (entries_rows n (pair_tally links) k start 0 (cuts_of bytes))) refl
     where
@@ -136,17 +135,16 @@ module _ (n k : ℕ) (good : Bool) (links : List Link) (judged : first (table_ro
           ∙ record_fits n (pair_tally links) k bytes whole few
 
       go : (j : Judged) → first (entries_rows n (pair_tally links) k start 0 (cuts_of bytes)) ≡ j
-          → (LawfulRun n (pair_tally links) k start (cuts_of bytes) × (r ≡ Gave (piles n (left n start (cuts_of bytes))) (finished n (pair_tally links) k (left n start (cuts_of bytes)))))
-          ⊎ ((number : ℕ) × (place : ℕ) × (r ≡ Refused·answer number place) × Stopped n (pair_tally links) k start 0 (cuts_of bytes) number place)
-      go Accepted e =
+          → (LawfulRun n (pair_tally links) k start (cuts_of bytes) × (r ≡ Ok (answer_of (piles n (left n start (cuts_of bytes))) (finished n (pair_tally links) k (left n start (cuts_of bytes))))))
+          ⊎ ((refusal : Refusal) × (r ≡ Err refusal) × Stopped n (pair_tally links) k start 0 (cuts_of bytes) refusal)
+      go (Ok done) e =
           inl (
             entries_lawful n (pair_tally links) k (cuts_of bytes) start 0 (narrow_cuts (length bytes / entry_size) bytes) e,
-            g.answer ∙ ap (λ (j : Judged). answered j (piles n (left n start (cuts_of bytes))) (finished n (pair_tally links) k (left n start (cuts_of bytes)))) (rows ∙ e),
+            g.answer ∙ ap (λ (j : Judged). answered j (answer_of (piles n (left n start (cuts_of bytes))) (finished n (pair_tally links) k (left n start (cuts_of bytes))))) (rows ∙ e),
           )
-      go (Refused number place) e =
+      go (Err refusal) e =
           inr (
-            number,
-            place,
-            g.answer ∙ ap (λ (j : Judged). answered j (piles n (left n start (cuts_of bytes))) (finished n (pair_tally links) k (left n start (cuts_of bytes)))) (rows ∙ e),
-            entries_stop n (pair_tally links) k (cuts_of bytes) start 0 number place counted.few_bones (narrow_cuts (length bytes / entry_size) bytes) e,
+            refusal,
+            g.answer ∙ ap (λ (j : Judged). answered j (answer_of (piles n (left n start (cuts_of bytes))) (finished n (pair_tally links) k (left n start (cuts_of bytes))))) (rows ∙ e),
+            entries_stop n (pair_tally links) k (cuts_of bytes) start 0 refusal counted.few_bones (narrow_cuts (length bytes / entry_size) bytes) e,
           )

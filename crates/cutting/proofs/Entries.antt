@@ -1,20 +1,54 @@
 -- Laws of entries as bytes: what writing one leaves around it, and reading and writing an entry undo each other.
 -- Assumes nothing.
-use Prim.Native.Nat.{ℕ, ◌+◌, ◌*◌, ◌/◌, ◌%◌, ◌^◌, ◌≤◌, ◌<◌}
-use mathlib.Core.Path.{◌≡◌, sym, ◌∙◌, ap, subst}
+use Prim.Native.Nat.{ℕ, ◌+◌, ◌*◌, ◌/◌, ◌%◌, ◌^◌, ◌≤◌, ◌<◌, ◌-◌, min}
+use mathlib.Core.Path.{◌≡◌, refl, sym, ◌∙◌, ap, ap₂, subst}
 use mathlib.Core.Logic.{⊎_elim}
-use mathlib.Core.List.{List, [], ◌∷◌, ◌++◌}
+use mathlib.Core.List.{List, [], ◌∷◌, ◌++◌, append-nil, append_assoc}
 use native.Mathlib.Nat.{add-zero}
 use native.Mathlib.Omega.{arith}
-use lib.Dec.{ltb, ltb→lt, nltb→le}
+use lib.Dec.{ltb, ltb→lt, nltb→le, leb, leb→le, nleb→lt}
 use lib.ListN.{length, get_or, take, drop, length-drop, replicate}
+use Rattle.std.proofs.Common.{length-take-le, take_all, drop_of_length-le}
 use lib.Seq.{take_at, drop-drop, get_or-drop}
 use borrow.Author.Tests.{lt-ltb, le-ltb}
-use Rattle.meaning.specs.Room.{over}
+use Rattle.meaning.specs.Room.{over, fitted}
 use Rattle.meaning.proofs.Tests.{decide}
-use Rattle.meaning.proofs.Room.{length_over, before-place, from_place, behind_items, over_same}
+use Rattle.meaning.proofs.Room.{length_over, before-place, from_place, behind_items, over_same, fitted_all, fitted_most, fitted_nil}
 use Rattle.cutting.specs.declared.record.Entry.{Entry}
 use Rattle.cutting.specs.Record.{entry_size, entry_of, entry_bytes, entry_at, entry_put}
+
+length_zero : (xs : List ℕ) → length xs ≡ 0 → xs ≡ []
+length_zero [] e = refl
+length_zero (x ∷ xs) e = absurd (omega arith)
+
+-- bytes copied from a place on, as many as there is room for
+pub copied_at : (to from : List ℕ) (at : ℕ) {a count k : ℕ} {new : List ℕ} → a ≡ min at (length to) → count ≡ min (length from) (length to - a) → k ≡ count → new ≡ take count from
+    → take a to ++ (new ++ drop k (drop a to)) ≡ fitted to at from
+unfolding over
+copied_at to from at {a} {count} {k} {new} e f same g =
+    ap₂ (λ (m : ℕ) (x : List ℕ). take a to ++ (x ++ drop m (drop a to))) same g ∙ ap (λ (x : List ℕ). take a to ++ (take count from ++ x)) (drop-drop count a to) ∙ sym (append_assoc (take a to) (take count from) (drop (a + count) to)) ∙ placed
+  where
+    wide : length (take count from) ≡ count
+    wide = length-take-le count from (omega arith)
+
+    placed : take a to ++ take count from ++ drop (a + count) to ≡ fitted to at from
+    placed =
+        ⊎_elim
+        (λ t. let here : a ≡ at = omega (arith, leb→le at (length to) t) in
+        ap (λ (m : ℕ). take a to ++ take count from ++ drop (a + m) to) (sym wide)
+        ∙ ap (λ (p : ℕ). over to p (take count from)) here
+        ∙ sym (fitted_all to at (take count from) (omega (arith, wide)))
+        ∙ fitted_most to at from count (omega arith))
+        (λ t. let past = nleb→lt at (length to) t in
+        let none : take count from ≡ [] = length_zero (take count from) (omega (arith, wide)) in
+        ap₂ (λ (x y : List ℕ). x ++ take count from ++ y) (take_all a to (omega arith)) (drop_of_length-le to {i = a + count} (omega arith))
+        ∙ ap (λ (x : List ℕ). to ++ x ++ []) none
+        ∙ append-nil (to ++ [])
+        ∙ append-nil to
+        ∙ sym (fitted_nil to at)
+        ∙ ap (fitted to at) (sym none)
+        ∙ fitted_most to at from count (omega arith))
+        (decide (leb at (length to)))
 
 -- where the entry in place i is whole, and where it is not
 pub at_whole : (bytes : List ℕ) (i : ℕ) → i < length bytes / entry_size → entry_at bytes i ≡ entry_of (drop (i * entry_size) bytes)

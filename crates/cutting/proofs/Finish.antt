@@ -9,6 +9,7 @@ use mathlib.Core.List.{List}
 use native.Mathlib.Omega.{arith}
 use lib.Dec.{T, ltb, ltb→lt, nltb→le, T_not, not_T}
 use lib.ListN.{length}
+use Rattle.std.specs.Prelude.{Option, Some, None, is_some}
 use Rattle.meaning.specs.Count.{least}
 use Rattle.meaning.specs.Tally.{Tally}
 use Rattle.meaning.specs.Firm.{firm, label, groups}
@@ -120,13 +121,15 @@ module _ (n : ℕ) (w : Tally) (k : ℕ) (some_bones : 0 < n) (cs : List Cut) (r
   run_cuts t = omega (arith, run_groups t, piles_run)
 
 -- what a search of a small table says, among no more than 128 bones
-pub searched_few : (n : ℕ) (t t₀ : List ℕ) (k : ℕ) (h : Heap) (from : ℕ) (r : Split) (light : Bool) → n ≤ 128 → Small n t₀ → t ≡ t₀ → (Small (min n 128) t → Searched (min n 128) (held t) k h from r light) → Searched n (held t₀) k h from r light
-searched_few n t t₀ k h from r light few small e s =
+pub searched_few : (n : ℕ) (t t₀ : List ℕ) (k : ℕ) (h : Heap) (from : ℕ) (r : Option Split) → n ≤ 128 → Small n t₀ → t ≡ t₀ → (Small (min n 128) t → Searched (min n 128) (held t) k h from r) → Searched n (held t₀) k h from r
+searched_few n t t₀ k h from r few small e s =
     let all : min n 128 ≡ n = omega arith in
-    subst (λ (m : ℕ). Small m t₀ → Searched m (held t₀) k h from r light) all (subst (λ (x : List ℕ). Small (min n 128) x → Searched (min n 128) (held x) k h from r light) e s) small
+    subst (λ (m : ℕ). Small m t₀ → Searched m (held t₀) k h from r) all (subst (λ (x : List ℕ). Small (min n 128) x → Searched (min n 128) (held x) k h from r) e s) small
 
--- and from 0 on of the run
-pub searched_finished : (n : ℕ) (w : Tally) (k : ℕ) (h : Heap) (r : Split) (light : Bool) → Searched n w k h 0 r light → not light ≡ finished n w k h
+-- and from 0 on of the run: it is finished where nothing is found
+pub searched_finished : (n : ℕ) (w : Tally) (k : ℕ) (h : Heap) (r : Option Split) (b : Bool) → Searched n w k h 0 r → is_some r ≡ not b → b ≡ finished n w k h
 unfolding Searched
-searched_finished n w k h r true s = sym (is_false (finished n w k h) (lawful_unfinished n w k h (cut_of r) s.0))
-searched_finished n w k h r false s = sym (is_true (finished n w k h) (firm-finished n w k h s.0))
+searched_finished n w k h (Some r) true s e = absurd (subst T e tt)
+searched_finished n w k h (Some r) false s e = sym (is_false (finished n w k h) (lawful_unfinished n w k h (cut_of r) s.0))
+searched_finished n w k h None true s e = sym (is_true (finished n w k h) (firm-finished n w k h s))
+searched_finished n w k h None false s e = absurd (subst T (sym e) tt)

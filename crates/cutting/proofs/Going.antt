@@ -1,9 +1,8 @@
 -- Laws of the loop that cuts to the end: what holds before each search, and that a cut keeps it.
 -- Assumes nothing.
-use Prim.Native.Nat.{ℕ, ◌+◌, ◌*◌, ◌-◌, ◌/◌, ◌≤◌, ◌<◌, zero-le}
+use Prim.Native.Nat.{ℕ, ◌+◌, ◌*◌, ◌-◌, ◌/◌, ◌≤◌, ◌<◌, zero-le, min}
 use mathlib.Core.Path.{◌≡◌, refl, sym, ◌∙◌, ap, subst}
 use mathlib.Core.Logic.{⊎_elim}
-use mathlib.Core.Bool.{Bool, true, false}
 use mathlib.Core.List.{List, [], ◌∷◌, ◌++◌}
 use native.Mathlib.Nat.{le_refl, not-suc-le-zero}
 use native.Mathlib.Omega.{arith}
@@ -16,29 +15,21 @@ use Rattle.meaning.proofs.Tests.{decide}
 use Rattle.meaning.proofs.Heaps.{Named}
 use Rattle.meaning.proofs.Runs.{left_append, run_append}
 use Rattle.weighing.specs.Side.{heap_of}
+use Rattle.std.specs.Prelude.{Option, Some, None}
+use Rattle.links.specs.Table.{held}
 use Rattle.weighing.specs.declared.search.Split.{Split}
-use Rattle.weighing.specs.Search.{FirmPiles, Searched, cut_of}
+use Rattle.weighing.specs.Degrees.{Loosed}
+use Rattle.weighing.specs.Search.{Small, FirmPiles, Searched, cut_of}
 use Rattle.cutting.specs.declared.record.Entry.{Entry}
 use Rattle.cutting.specs.Record.{entry_size, entry_put, entry_cut, cuts_in}
 use Rattle.cutting.specs.Finish.{Begun, Ended, Going, Peeled}
 use Rattle.cutting.proofs.Entries.{length_put, put_before, put_behind}
 use Rattle.cutting.proofs.Cuts.{length_cuts, cuts_put}
-use Rattle.cutting.proofs.Finish.{firm-finished, firm-stays, firm-kept, reached, cuts_most, cuts_room}
+use Rattle.cutting.proofs.Finish.{firm-finished, firm-stays, firm-kept, reached, cuts_most, cuts_room, searched_few}
 
 -- a lawful cut, of the first pile named `from` or more that has one
 abbrev pub Found : ℕ → Tally → ℕ → Heap → ℕ → Cut → Type 0
 Found n w k h from c = Lawful n w k h c × (from ≤ c.name) × FirmPiles n w k h from c.name
-
--- the two answers of a search
-pub searched_light : (n : ℕ) (w : Tally) (k : ℕ) (h : Heap) (from : ℕ) (r : Split) (light : Bool) → Searched n w k h from r light → light ≡ true → Found n w k h from (cut_of r)
-unfolding Searched cut_of
-searched_light n w k h from r light s e = subst (λ (t : Bool). Searched n w k h from r t) e s
-
-pub searched_none : (n : ℕ) (w : Tally) (k : ℕ) (h : Heap) (from : ℕ) (r : Split) (light : Bool) → Searched n w k h from r light → light ≡ false → FirmPiles n w k h from n
-unfolding Searched
-searched_none n w k h from r light s e =
-    let none : Searched n w k h from r false = subst (λ (t : Bool). Searched n w k h from r t) e s in
-    none.0
 
 pub going_start : {n : ℕ} {w : Tally} {k : ℕ} {names space : List ℕ} {cuts : ℕ} → Begun n w k names space cuts → Going n w k space cuts names space cuts 0
 unfolding FirmPiles
@@ -142,3 +133,25 @@ peeled_on a b =
       more = omega (arith, a.more, b.more);
       most = omega (arith, a.most, b.most);
     }
+
+-- the run goes on over a table that is as it came
+pub peeled_going : {n : ℕ} {t t₀ : List ℕ} {k : ℕ} {names names' space space' space₀ : List ℕ} {cuts cuts' cuts₀ m from : ℕ} → t ≡ t₀ → Peeled n (held t) k names space cuts names' space' cuts' m
+    → Going n (held t₀) k space₀ cuts₀ names space cuts from → Going n (held t₀) k space₀ cuts₀ names' space' cuts' from
+peeled_going {n} {t} {t₀} {k} {names} {names'} {space} {space'} {space₀} {cuts} {cuts'} {cuts₀} {m} {from} e p g =
+    (subst (λ (x : List ℕ). Peeled n (held x) k names space cuts names' space' cuts' m) e p).on space₀ cuts₀ from g
+
+-- a split that a search found, none that it found, and one that parts a bone from the rest, among no more than 128 bones
+module _ {n : ℕ} {t t₀ : List ℕ} (k : ℕ) (h : Heap) (from : ℕ) {r : Option Split} (few : n ≤ 128) (small : Small n t₀) (e : t ≡ t₀) (s : Small (min n 128) t → Searched (min n 128) (held t) k h from r) where
+  pub found_split : {split : Split} → r ≡ Some split → Found n (held t₀) k h from (cut_of split)
+  unfolding Searched cut_of
+  found_split found = subst (Searched n (held t₀) k h from) found (searched_few n t t₀ k h from r few small e s)
+
+  pub none_found : r ≡ None → FirmPiles n (held t₀) k h from n
+  unfolding Searched
+  none_found none = subst (Searched n (held t₀) k h from) none (searched_few n t t₀ k h from r few small e s)
+
+pub loosed_lawful : {n : ℕ} {w : Tally} {k : ℕ} {h : Heap} (u : ℕ) {r : Option Split} {split : Split} → n ≤ 128 → Loosed (min n 128) w k h u r → r ≡ Some split → Lawful n w k h (cut_of split)
+unfolding Loosed
+loosed_lawful {n} {w} {k} {h} u {r} {split} few l e =
+    let all : min n 128 ≡ n = omega arith in
+    subst (λ (m : ℕ). Lawful m w k h (cut_of split)) all (subst (Loosed (min n 128) w k h u) e l).0

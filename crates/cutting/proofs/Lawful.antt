@@ -10,10 +10,12 @@ use native.Mathlib.Numerals.{add-one}
 use native.Mathlib.Omega.{arith}
 use lib.Dec.{T, T_not, not_T}
 use lib.ListN.{length}
-use borrow.Author.Tests.{lt-ltb, le-ltb, eq-eqb, ne_eqb, le-leb, lt-leb, leb-false, eqb-true, not-false}
-use Rattle.meaning.specs.declared.Judged.{Judged}
-use Rattle.meaning.specs.declared.Judged.TheVariants.{Accepted, Refused}
-use Rattle.meaning.specs.Judge.{refuse, first}
+use borrow.Author.Tests.{le-ltb, eq-eqb, lt-leb, leb-false, eqb-true, not-false}
+use Rattle.meaning.specs.declared.Row.{Row}
+use Rattle.meaning.specs.declared.Row.TheVariants.{Pile, Side, Weight, NotLight}
+use Rattle.meaning.specs.declared.Refusal.{Refusal}
+use Rattle.std.proofs.Common.{Ok, Err}
+use Rattle.meaning.specs.Judge.{Judged, Accepted, Refused, refuse, first}
 use Rattle.meaning.specs.Count.{Bones, some}
 use Rattle.meaning.specs.Tally.{Tally, weight}
 use Rattle.meaning.specs.Heap.{Heap, start, Cut, Lawful, LawfulRun, parted, pile, stands, left}
@@ -40,34 +42,20 @@ weighed {r} n w h name side few e =
 -- ---- one entry
 
 -- what a row accepts, and the rows behind it
-pub row_accepted : (b : Bool) (number place : ℕ) (js : List Judged) → first (refuse b number place ∷ js) ≡ Accepted → (b ≡ false) × (first js ≡ Accepted)
+pub row_accepted : (b : Bool) (row : Row) (place : ℕ) (js : List Judged) → first (refuse b row place ∷ js) ≡ Accepted → (b ≡ false) × (first js ≡ Accepted)
 unfolding refuse first
-row_accepted true number place js e = absurd (never_both (Refused number place) number place e refl)
-row_accepted false number place js e = (refl, e)
+row_accepted true row place js e = absurd (never_both (Refused row place) (record { row = row; place = place }) e refl)
+row_accepted false row place js e = (refl, e)
 
 pub first_none : first [] ≡ Accepted
 unfolding first
 first_none = refl
 
 -- where a list refuses at a place, its first row does or those behind it do
-row-place : (i number place : ℕ) (b : Bool) (m : ℕ) (js : List Judged) → first (refuse b m i ∷ js) ≡ Refused number place → (first js ≡ Refused number place → place ≡ i) → place ≡ i
+row-place : (i : ℕ) (refusal : Refusal) (b : Bool) (row : Row) (js : List Judged) → first (refuse b row i ∷ js) ≡ Err refusal → (first js ≡ Err refusal → refusal.place ≡ i) → refusal.place ≡ i
 unfolding refuse first
-row-place i number place true m js e f = cc
-row-place i number place false m js e f = f e
-
--- row 11's words, tried in turn
-module _ (n : ℕ) (h : Heap) (name : ℕ) (side : Bones) where
-  pub astray_none : some 128 side ≡ false → true ≡ astray n h name side
-  unfolding astray
-  astray_none e = rw e
-
-  pub astray-least : some 128 side ≡ true → side name ≡ true → true ≡ astray n h name side
-  unfolding astray
-  astray-least e f = rw (e, f)
-
-  pub astray_rest : {r : Bool} → some 128 side ≡ true → side name ≡ false → r ≡ some 128 (λ b. side b && not (pile n h name b)) → r ≡ astray n h name side
-  unfolding astray
-  astray_rest e f g = rw (e, f) g
+row-place i refusal true row js e f = cc
+row-place i refusal false row js e f = f e
 
 module _ (n : ℕ) (w : Tally) (k : ℕ) (h : Heap) (c : Cut) where
   -- the side holds a bone outside the pile
@@ -77,10 +65,10 @@ module _ (n : ℕ) (w : Tally) (k : ℕ) (h : Heap) (c : Cut) where
   pub entry_lawful : (i : ℕ) → Narrow c → first (entry_rows n w k h i c) ≡ Accepted → Lawful n w k h c
   unfolding entry_rows astray strays
   entry_lawful i narrow e =
-      let ten = row_accepted (not (stands n h c.name)) 10 i _ e in
-      let eleven = row_accepted _ 11 i _ ten.1 in
-      let twelve = row_accepted _ 12 i _ eleven.1 in
-      let thirteen = row_accepted _ 13 i _ twelve.1 in
+      let ten = row_accepted (not (stands n h c.name)) Pile i _ e in
+      let eleven = row_accepted _ Side i _ ten.1 in
+      let twelve = row_accepted _ Weight i _ eleven.1 in
+      let thirteen = row_accepted _ NotLight i _ twelve.1 in
       let sound : T (not (not (some 128 c.side) || (c.side c.name || strays))) = fails eleven.0 in
       let inside : (b : ℕ) → T (c.side b) → T (pile n h c.name b) = λ b t.
       ⊎_elim (λ u. u)
@@ -108,33 +96,12 @@ module _ (n : ℕ) (w : Tally) (k : ℕ) (h : Heap) (c : Cut) where
       simp
       (is_true (stands n h c.name) law.standing, is_true (some 128 c.side) (some_intro 128 c.side moved.0 (omega (arith, moved.1)) moved.2), is_false (c.side c.name) law.staying, is_false (some 128 (λ b. c.side b && not (pile n h c.name b))) stray, eq-eqb c.weighs _ law.true_weight, lt-leb k c.weighs law.light)
 
-  -- the rows, tried in turn
-  pub entry_ten : (i : ℕ) → stands n h c.name ≡ false → Refused 10 i ≡ first (entry_rows n w k h i c)
-  unfolding entry_rows refuse first
-  entry_ten i e = rw e
-
-  pub entry_eleven : (i : ℕ) → stands n h c.name ≡ true → astray n h c.name c.side ≡ true → Refused 11 i ≡ first (entry_rows n w k h i c)
-  unfolding entry_rows refuse first
-  entry_eleven i e f = rw (e, f)
-
-  pub entry_twelve : (i : ℕ) → stands n h c.name ≡ true → astray n h c.name c.side ≡ false → (c.weighs ≡ weight n w (pile n h c.name) c.side → ⊥) → Refused 12 i ≡ first (entry_rows n w k h i c)
-  unfolding entry_rows refuse first
-  entry_twelve i e f g = rw (e, f, ne_eqb c.weighs (weight n w (pile n h c.name) c.side) g)
-
-  pub entry_thirteen : (i : ℕ) → stands n h c.name ≡ true → astray n h c.name c.side ≡ false → c.weighs ≡ weight n w (pile n h c.name) c.side → k ≤ c.weighs → Refused 13 i ≡ first (entry_rows n w k h i c)
-  unfolding entry_rows refuse first
-  entry_thirteen i e f g l = rw (e, f, eq-eqb c.weighs (weight n w (pile n h c.name) c.side) g, le-leb k c.weighs l)
-
-  pub entry_sound : (i : ℕ) → stands n h c.name ≡ true → astray n h c.name c.side ≡ false → c.weighs ≡ weight n w (pile n h c.name) c.side → c.weighs < k → Accepted ≡ first (entry_rows n w k h i c)
-  unfolding entry_rows refuse first
-  entry_sound i e f g l = rw (e, f, eq-eqb c.weighs (weight n w (pile n h c.name) c.side) g, lt-leb k c.weighs l)
-
   -- a refusal's place is the entry's own
-  pub entry_place : (i number place : ℕ) → first (entry_rows n w k h i c) ≡ Refused number place → place ≡ i
+  pub entry_place : (i : ℕ) (refusal : Refusal) → first (entry_rows n w k h i c) ≡ Err refusal → refusal.place ≡ i
   unfolding entry_rows
-  entry_place i number place e =
-      row-place i number place _ _ _ e
-      (λ e. row-place i number place _ _ _ e (λ e. row-place i number place _ _ _ e (λ e. row-place i number place _ _ _ e (λ e. absurd (never_both (first []) number place first_none e)))))
+  entry_place i refusal e =
+      row-place i refusal _ _ _ e
+      (λ e. row-place i refusal _ _ _ e (λ e. row-place i refusal _ _ _ e (λ e. row-place i refusal _ _ _ e (λ e. absurd (never_both (first []) refusal first_none e)))))
 
 -- ---- a record
 
@@ -153,14 +120,14 @@ module _ (n : ℕ) (w : Tally) (k : ℕ) where
   lawful_entries (c ∷ cs) h i few run =
       first_accepted (entry_rows n w k h i c) _ (lawful_entry n w k h c i few run.0) ∙ lawful_entries cs (parted n h c) (suc i) few run.1
 
-  pub entries_stop : (cs : List Cut) (h : Heap) (i number place : ℕ) → n ≤ 128 → Narrows cs → first (entries_rows n w k h i cs) ≡ Refused number place → Stopped n w k h i cs number place
+  pub entries_stop : (cs : List Cut) (h : Heap) (i : ℕ) (refusal : Refusal) → n ≤ 128 → Narrows cs → first (entries_rows n w k h i cs) ≡ Err refusal → Stopped n w k h i cs refusal
   unfolding entries_rows LawfulRun left
-  entries_stop [] h i number place few narrow e = absurd (never_both (first []) number place first_none e)
-  entries_stop (c ∷ cs) h i number place few narrow e =
-      go (first (entry_rows n w k h i c)) refl (λ a. entries_stop cs (parted n h c) (suc i) number place few narrow.1 (sym (first_accepted (entry_rows n w k h i c) _ a) ∙ e))
+  entries_stop [] h i refusal few narrow e = absurd (never_both (first []) refusal first_none e)
+  entries_stop (c ∷ cs) h i refusal few narrow e =
+      go (first (entry_rows n w k h i c)) refl (λ a. entries_stop cs (parted n h c) (suc i) refusal few narrow.1 (sym (first_accepted (entry_rows n w k h i c) _ a) ∙ e))
     where
-      go : (r : Judged) → first (entry_rows n w k h i c) ≡ r → (first (entry_rows n w k h i c) ≡ Accepted → Stopped n w k (parted n h c) (suc i) cs number place) → Stopped n w k h i (c ∷ cs) number place
-      go Accepted a f =
+      go : (r : Judged) → first (entry_rows n w k h i c) ≡ r → (first (entry_rows n w k h i c) ≡ Accepted → Stopped n w k (parted n h c) (suc i) cs refusal) → Stopped n w k h i (c ∷ cs) refusal
+      go (Ok done) a f =
           let s = f a in
           record {
             before = c ∷ s.before;
@@ -172,17 +139,17 @@ module _ (n : ℕ) (w : Tally) (k : ℕ) where
             row = s.row;
             here = omega (arith, s.here);
           }
-      go (Refused m p) a f =
-          let same : Refused m p ≡ Refused number place = sym (first-refused (entry_rows n w k h i c) _ m p a) ∙ e in
-          let here = entry_place n w k h c i number place (a ∙ same) in
+      go (Err q) a f =
+          let same : Err q ≡ Err refusal = sym (first-refused (entry_rows n w k h i c) _ q a) ∙ e in
+          let here = entry_place n w k h c i refusal (a ∙ same) in
           record {
             before = [];
             at = c;
             after = cs;
             whole = refl;
             run = tt;
-            wrong = λ law. never_both _ m p (lawful_entry n w k h c i few law) a;
-            row = subst (λ (x : ℕ). first (entry_rows n w k h x c) ≡ Refused number place) (sym here) (a ∙ same);
+            wrong = λ law. never_both _ q (lawful_entry n w k h c i few law) a;
+            row = subst (λ (x : ℕ). first (entry_rows n w k h x c) ≡ Err refusal) (sym here) (a ∙ same);
             here = omega (arith, here);
           }
 
@@ -193,10 +160,10 @@ module _ (n : ℕ) (w : Tally) (k : ℕ) (h : Heap) (c : Cut) (cs : List Cut) {r
   unfolding entries_rows
   entries_next h' i p e = rw (r, add-one i, p) (first_accepted (entry_rows n w k h i c) (entries_rows n w k (parted n h c) (suc i) cs) e)
 
-  pub entries_halt : (i number place : ℕ) → first (entry_rows n w k h i c) ≡ Refused number place → first (entries_rows n w k h i rest) ≡ Refused number place
+  pub entries_halt : (i : ℕ) (refusal : Refusal) → first (entry_rows n w k h i c) ≡ Err refusal → first (entries_rows n w k h i rest) ≡ Err refusal
   unfolding entries_rows
-  entries_halt i number place e =
-      rw r (first-refused (entry_rows n w k h i c) (entries_rows n w k (parted n h c) (suc i) cs) number place e)
+  entries_halt i refusal e =
+      rw r (first-refused (entry_rows n w k h i c) (entries_rows n w k (parted n h c) (suc i) cs) refusal e)
 
   pub left_next : (h' : Heap) → h' ≡ parted n h c → left n h rest ≡ left n h' cs
   unfolding left
@@ -219,14 +186,6 @@ few_rows n w k bytes few e =
 -- ---- row 9
 
 module _ (n : ℕ) (w : Tally) (k : ℕ) (bytes : List ℕ) where
-  pub record_broken : (length bytes % entry_size ≡ 0 → ⊥) → Refused 9 0 ≡ first (record_rows n w k bytes)
-  unfolding record_rows record_row refuse first
-  record_broken f = rw (ne_eqb (length bytes % entry_size) 0 f)
-
-  pub record_long : length bytes % entry_size ≡ 0 → n - 1 < length bytes / entry_size → Refused 9 0 ≡ first (record_rows n w k bytes)
-  unfolding record_rows record_row refuse first
-  record_long e l = rw (eq-eqb (length bytes % entry_size) 0 e, lt-ltb (n - 1) (length bytes / entry_size) l)
-
   pub record_fits : length bytes % entry_size ≡ 0 → length bytes / entry_size ≤ n - 1 → first (record_rows n w k bytes) ≡ first (entries_rows n w k start 0 (cuts_of bytes))
   unfolding record_rows record_row refuse first
   record_fits e l = rw (eq-eqb (length bytes % entry_size) 0 e, le-ltb (n - 1) (length bytes / entry_size) l)

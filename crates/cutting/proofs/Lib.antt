@@ -22,4 +22,3 @@ pub mod Demands
 pub mod Unique
 pub mod Labelling
 pub mod Keeping
-pub mod JudgedThin

@@ -10,5 +10,4 @@ pub mod Rows
 pub mod Finish
 pub mod Runs
 pub mod Calls
-pub mod Thin
 pub mod Above

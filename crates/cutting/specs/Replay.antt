@@ -1,8 +1,6 @@
 -- What replaying a record on a heap gives: the first refusal of its rows; and where they accept, names that mean the heap that it leaves.
 use Rattle.std.specs.Prelude.{ℕ, ◌≡◌, List, length}
-use Rattle.meaning.specs.declared.Judged.{Judged}
-use Rattle.meaning.specs.declared.Judged.TheVariants.{Accepted}
-use Rattle.meaning.specs.Judge.{first}
+use Rattle.meaning.specs.Judge.{Judged, Accepted, first}
 use Rattle.meaning.specs.Tally.{Tally}
 use Rattle.meaning.specs.Heap.{Heap, left}
 use Rattle.weighing.specs.Side.{heap_of}

@@ -1,8 +1,8 @@
 -- Rows 7, 8 and 14 of the refusal table, which judge the room that is lent, and the rows that each call tries, in document 01's order.
 use Rattle.std.specs.Prelude.{ℕ, ◌*◌, ◌-◌, Bool, List, [], ◌∷◌, ◌++◌, ltb, length}
 use Rattle.meaning.specs.declared.Link.{Link}
-use Rattle.meaning.specs.declared.Judged.{Judged}
-use Rattle.meaning.specs.Judge.{refuse}
+use Rattle.meaning.specs.declared.Row.TheVariants.{LabelSpace, RecordSpace, LinkSpace}
+use Rattle.meaning.specs.Judge.{Judged, refuse}
 use Rattle.meaning.specs.Tally.{pair_tally}
 use Rattle.links.specs.Links.{table_rows}
 use Rattle.cutting.specs.Record.{entry_size}
@@ -10,14 +10,14 @@ use Rattle.cutting.specs.RecordRows.{record_rows}
 
 -- 7: label space shorter than n. 8: record space shorter than n − 1 entries
 unfoldable pub label_row : ℕ → ℕ → Judged
-label_row n room = refuse (ltb room n) 7 0
+label_row n room = refuse (ltb room n) LabelSpace 0
 
 unfoldable pub space_row : ℕ → ℕ → Judged
-space_row n room = refuse (ltb room (entry_size * (n - 1))) 8 0
+space_row n room = refuse (ltb room (entry_size * (n - 1))) RecordSpace 0
 
 -- 14: link space shorter than the links given, both counted in whole links
 unfoldable pub link_row : ℕ → ℕ → Judged
-link_row links room = refuse (ltb room links) 14 0
+link_row links room = refuse (ltb room links) LinkSpace 0
 
 -- what each call tries, in order; `good` says that the run of links is whole
 unfoldable pub checking_rows : ℕ → ℕ → Bool → List Link → List ℕ → ℕ → List Judged

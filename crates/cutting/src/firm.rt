@@ -5,9 +5,9 @@ ghost use Rattle.weighing.specs.Search.{Small, cut_of};
 ghost use Rattle.cutting.specs.Record.{entry_cut};
 ghost use Rattle.cutting.specs.Finish.{Begun, Ended, Extended, Peeled};
 
+use crate::counts::Counts;
 use crate::heap::part;
 use crate::record::{Entry, Record, write};
-use links::numbers::wide;
 use weighing::degrees::{degrees, leave, lone};
 use weighing::search::{Split, search};
 
@@ -25,60 +25,57 @@ fn entry_of(split: Split) -> Entry
 }
 
 // A split becomes the next entry of the record space, and the names are parted; gives the name of the new pile.
-fn cut(n: usize, names: &mut [u8; 128], space: &mut [u8], cuts: usize, split: Split) -> u8
-    requires { (n ≤ 128) × (split.weight < 2 ^ 32) }
-    ensures { Extended n names.old space.old cuts split names.new space.new }
+fn cut(counts: Counts, names: &mut [u8; 128], space: &mut [u8], cuts: usize, split: Split) -> u8
+    requires { split.weight < 2 ^ 32 }
+    ensures { Extended counts.bones names.old space.old cuts split names.new space.new }
 {
     let entry = entry_of(split);
     write(space, cuts, entry);
-    part(names, n, entry)
+    part(names, counts.bones, entry)
 }
 
 // Bone u is cut off where its noted degree is below k and its tally, summed up, is too. It is noted as great then: a bone alone is not looked at again.
+// Table, names, notes and space stay parameters: the search changes the table that is only read here, and a struct of the others would be taken apart in
+// each call below.
 fn loosen(
     table: &[u32; 16384],
-    n: usize,
-    k: u64,
+    counts: Counts,
     names: &mut [u8; 128],
     notes: &mut [u32; 128],
     space: &mut [u8],
     cuts: usize,
     u: usize,
 ) -> usize
-    requires { (n ≤ 128) × (k ≤ 65535) × (u < n) × (cuts ≤ 256) }
-    ensures { Peeled n (held table.now) k names.old space.old cuts names.new space.new result 1 }
+    requires { (u < counts.bones) × (cuts ≤ 256) }
+    ensures { Peeled counts.bones (held table.now) counts.k names.old space.old cuts names.new space.new result 1 }
 {
-    if k <= wide(notes[u]) {
+    if counts.k <= u64::from(notes[u]) {
         return cuts;
     }
-    let split = lone(table, names, n, k, u, notes);
-    notes[u] = 4294967295;
-    let light = split.light;
-    if !light {
+    let light = lone(table, names, counts.bones, counts.k, u, notes);
+    notes[u] = u32::MAX;
+    let Some(split) = light else {
         return cuts;
-    }
-    cut(n, names, space, cuts, split);
+    };
+    cut(counts, names, space, cuts, split);
     cuts + 1
 }
 
 // One sweep over the bones, from the last to the first: each that hangs on by less than k is a cut by itself, written at once.
 fn peel(
     table: &[u32; 16384],
-    n: usize,
-    k: u64,
+    counts: Counts,
     names: &mut [u8; 128],
     notes: &mut [u32; 128],
     space: &mut [u8],
     given: usize,
 ) -> usize
-    requires { (n ≤ 128) × (k ≤ 65535) × (given ≤ 128) }
-    ensures { Peeled n (held table.now) k names.old space.old given names.new space.new result n }
+    requires { given ≤ 128 }
+    ensures { Peeled counts.bones (held table.now) counts.k names.old space.old given names.new space.new result counts.bones }
 {
     let mut cuts = given;
-    let mut u = n;
-    while 0 < u {
-        u -= 1;
-        cuts = loosen(table, n, k, names, notes, space, cuts, u);
+    for u in (0..counts.bones).rev() {
+        cuts = loosen(table, counts, names, notes, space, cuts, u);
     }
     cuts
 }
@@ -87,34 +84,30 @@ fn peel(
 // finds is a cut. The piles below the one that a search cut are firm and stay so.
 pub(crate) fn finish(
     table: &mut [u32; 16384],
-    n: usize,
-    k: u64,
+    counts: Counts,
     names: &mut [u8; 128],
     space: &mut [u8],
     given: Record,
 ) -> Record
-    requires small { Small n table.old }
-    requires begun { Begun n (held table.old) k names.old space.old given.cuts }
-    ensures { Ended n (held table.old) k space.old given.cuts names.new space.new result.cuts }
+    requires small { Small counts.bones table.old }
+    requires begun { Begun counts.bones (held table.old) counts.k names.old space.old given.cuts }
+    ensures { Ended counts.bones (held table.old) counts.k space.old given.cuts names.new space.new result.cuts }
 {
-    let mut notes = degrees(table, names, n);
+    let mut notes = degrees(table, names, counts.bones);
     let mut cuts = given.cuts;
     let mut from = 0;
     loop {
-        let peeled = peel(table, n, k, names, &mut notes, space, cuts);
-        if peeled != cuts {
-            cuts = peeled;
+        let before = cuts;
+        cuts = peel(table, counts, names, &mut notes, space, before);
+        if before < cuts {
             continue;
         }
-        let split = search(table, names, n, k, from);
-        let light = split.light;
-        if !light {
+        let Some(split) = search(table, names, counts.bones, counts.k, from) else {
             return Record { cuts };
-        }
-        let pile = split.pile;
-        from = pile as usize;
-        let name = cut(n, names, space, cuts, split);
-        leave(table, names, n, name, pile, &mut notes);
+        };
+        from = usize::from(split.pile);
+        let name = cut(counts, names, space, cuts, split);
+        leave(table, names, counts.bones, name, split.pile, &mut notes);
         cuts += 1;
     }
 }

@@ -3,16 +3,14 @@ ghost use Rattle.std.specs.Prelude.{◌≡◌, ◌+◌, ◌*◌, ◌/◌, ◌≤
 ghost use Rattle.meaning.specs.Room.{over, fitted};
 ghost use Rattle.cutting.specs.Record.{entry_size, head_bytes, entry_at, entry_put};
 
-use crate::numbers::{less, lesser};
-
 // So many entries, from the start of a run of bytes.
-#[derive(Clone, Copy)]
+#[derive(Clone, Copy, PartialEq, Eq)]
 pub struct Record {
     pub cuts: usize,
 }
 
 // One entry: the pile's name, the weight, and the moved side.
-#[derive(Clone, Copy)]
+#[derive(Clone, Copy, PartialEq, Eq)]
 pub struct Entry {
     pub pile: u8,
     pub weight: u32,
@@ -44,19 +42,9 @@ impl Record {
 pub fn copy(from: &[u8], to: &mut [u8], at: usize)
     ensures { to.new ≡ fitted to.old at from.now }
 {
-    let count = lesser(from.len(), less(to.len(), at));
-    let mut j = 0;
-    while j < count {
-        to[at + j] = from[j];
-        j += 1;
-    }
-}
-
-// A weight from its four bytes, the high byte first.
-fn weight_of(a: u8, b: u8, c: u8, d: u8) -> u32
-    ensures { result ≡ a * 2 ^ 24 + b * 2 ^ 16 + c * 2 ^ 8 + d }
-{
-    (((a as u32) * 256 + b as u32) * 256 + c as u32) * 256 + d as u32
+    let at = at.min(to.len());
+    let count = from.len().min(to.len() - at);
+    to[at..at + count].copy_from_slice(&from[..count]);
 }
 
 // The side that stands from a place on.
@@ -65,7 +53,7 @@ fn side_at(bytes: &[u8], at: usize) -> [u8; 16]
     ensures { result ≡ take 16 (drop at bytes.now) }
 {
     let mut side = [0u8; 16];
-    copy(&bytes[at..at + 16], &mut side, 0);
+    side.copy_from_slice(&bytes[at..at + 16]);
     side
 }
 
@@ -74,14 +62,8 @@ fn put_name_and_weight(space: &mut [u8], at: usize, pile: u8, weight: u32)
     requires { at + 5 ≤ length space.old }
     ensures { space.new ≡ over space.old at (head_bytes pile weight) }
 {
-    let head = [
-        pile,
-        (weight / 16777216) as u8,
-        (weight / 65536 % 256) as u8,
-        (weight / 256 % 256) as u8,
-        (weight % 256) as u8,
-    ];
-    copy(&head, space, at);
+    let [a, b, c, d] = weight.to_be_bytes();
+    copy(&[pile, a, b, c, d], space, at);
 }
 
 // Entry i of a run of bytes; past its last whole entry, all nought.
@@ -97,7 +79,7 @@ pub fn read(bytes: &[u8], i: usize) -> Entry
     }
     let at = i * Record::ENTRY;
     let side = side_at(bytes, at + 5);
-    let weight = weight_of(bytes[at + 1], bytes[at + 2], bytes[at + 3], bytes[at + 4]);
+    let weight = u32::from_be_bytes([bytes[at + 1], bytes[at + 2], bytes[at + 3], bytes[at + 4]]);
     Entry {
         pile: bytes[at],
         weight,
@@ -114,6 +96,5 @@ pub fn write(space: &mut [u8], i: usize, entry: Entry)
     }
     let at = i * Record::ENTRY;
     put_name_and_weight(space, at, entry.pile, entry.weight);
-    let side = entry.side;
-    copy(&side, space, at + 5);
+    copy(&entry.side, space, at + 5);
 }

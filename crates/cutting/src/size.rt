@@ -15,8 +15,5 @@ pub fn size_of(cuts: u32) -> usize
 pub fn size_of_run(groups: u32) -> usize
     ensures { result ≡ (groups - 1) * entry_size }
 {
-    if groups == 0 {
-        return 0;
-    }
-    size_of(groups - 1)
+    size_of(groups.saturating_sub(1))
 }

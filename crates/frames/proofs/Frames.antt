@@ -1,11 +1,10 @@
 -- Laws of frames: digits and their values, bytes as pairs of digits, the sum, and lines as frames and back.
 -- Assumes nothing.
-use Rattle.std.proofs.Common.{◌≡◌, ℕ, zero, suc, ◌+◌, ◌-◌, ◌*◌, ◌/◌, ◌%◌, ◌<◌, ◌≤◌, Bool, true, false, cond, not, ◌&&◌, T, eqb, ltb, leb, ◌⊎◌, List, [], ◌∷◌, ◌++◌, length, get_or, take, drop, sym, refl, ap, ◌∙◌, ap₂, inl, inr, ⊎_elim, arith, eqb→eq, ltb→lt, lt→ltb, leb→le, nltb→le, length-append, drop_of_length-le, le-ltb, lt-ltb, le-leb}
-use borrow.Author.Tests.{lt-leb}
+use Rattle.std.proofs.Common.{◌≡◌, ℕ, zero, suc, ◌+◌, ◌-◌, ◌*◌, ◌/◌, ◌%◌, ◌<◌, ◌≤◌, Bool, true, false, cond, not, T, ◌⊎◌, List, [], ◌∷◌, ◌++◌, length, get_or, take, drop, sym, refl, ap, ◌∙◌, inl, inr, arith, length-append}
+use Rattle.std.proofs.lemmas.Grind.{common_steps}
 use lib.Seq.{split_at}
 use Rattle.meaning.specs.Bytes.{Bytes}
 use Rattle.meaning.proofs.Bytes.{bytes_cons, bytes_append}
-use Rattle.meaning.proofs.Tests.{eq→eqb, both, left_of, right_of}
 use Rattle.frames.specs.Frame.{payloads, is_kind, byte_sum, sum_byte, digit, value_of, hex, is_hex, bytes_of, line, well_formed}
 use Rattle.frames.specs.Characters.{pair_of}
 
@@ -17,111 +16,57 @@ chosen false x y = inr (tt, refl)
 -- what a character is: a digit 0 to 9, a digit a to f, or none
 pub value_cases : (c : ℕ) → ((48 ≤ c) × (c ≤ 57) × (value_of c ≡ c - 48)) ⊎ (((97 ≤ c) × (c ≤ 102) × (value_of c ≡ c - 87)) ⊎ (value_of c ≡ 16))
 unfolding value_of
-value_cases c =
-    ⊎_elim
-    (λ w. inl (leb→le 48 c (left_of (leb 48 c) (leb c 57) w.0), leb→le c 57 (right_of (leb 48 c) (leb c 57) w.0), w.1))
-    (λ w.
-    ⊎_elim
-    (λ v. inr (inl (leb→le 97 c (left_of (leb 97 c) (leb c 102) v.0), leb→le c 102 (right_of (leb 97 c) (leb c 102) v.0), w.1 ∙ v.1)))
-    (λ v. inr (inr (w.1 ∙ v.1)))
-    (chosen (leb 97 c && leb c 102) (c - 87) 16))
-    (chosen (leb 48 c && leb c 57) (c - 48) (cond (leb 97 c && leb c 102) (c - 87) 16))
+value_cases c = grind (arith, common_steps)
 
 pub value_low : (c : ℕ) → 48 ≤ c → c ≤ 57 → value_of c ≡ c - 48
 unfolding value_of
-value_low c a b = simp (le-leb _ _ a, le-leb _ _ b)
+value_low c a b = grind (arith, common_steps)
 
 pub value_high : (c : ℕ) → 97 ≤ c → c ≤ 102 → value_of c ≡ c - 87
 unfolding value_of
-value_high c a b =
-    let h : 57 < c = omega arith in
-    let l : 48 ≤ c = omega arith in
-    simp (le-leb _ _ l, lt-leb _ _ h, le-leb _ _ a, le-leb _ _ b)
-
-pub value_none : (c : ℕ) → (48 ≤ c → c ≤ 57 → ⊥) → (97 ≤ c → c ≤ 102 → ⊥) → value_of c ≡ 16
-value_none c f g =
-    ⊎_elim (λ w. absurd (f w.0 w.1)) (λ w. ⊎_elim (λ v. absurd (g v.0 v.1)) (λ v. v) w) (value_cases c)
+value_high c a b = grind (arith, common_steps)
 
 -- a digit's value, and a value's digit
 pub value_digit : (d : ℕ) → d < 16 → value_of (digit d) ≡ d
-unfolding digit
-value_digit d h =
-    ⊎_elim
-    (λ w. ap value_of w.1 ∙ value_low (48 + d) (omega arith) (omega (arith, ltb→lt)) ∙ omega arith)
-    (λ w. ap value_of w.1 ∙ value_high (87 + d) (omega (arith, nltb→le)) (omega (arith)) ∙ omega arith)
-    (chosen (ltb d 10) (48 + d) (87 + d))
+unfolding digit value_of
+value_digit d h = grind (arith, common_steps)
 
 pub digit_low : (d : ℕ) → d < 10 → digit d ≡ 48 + d
 unfolding digit
-digit_low d h = simp (lt-ltb _ _ h)
+digit_low d h = grind (arith, common_steps)
 
 pub digit_high : (d : ℕ) → 10 ≤ d → digit d ≡ 87 + d
 unfolding digit
-digit_high d h = simp (le-ltb _ _ h)
+digit_high d h = grind (arith, common_steps)
 
 pub digit_value : (c : ℕ) → value_of c < 16 → digit (value_of c) ≡ c
-digit_value c h =
-    ⊎_elim
-    (λ w. digit_low (value_of c) (omega arith) ∙ omega arith)
-    (λ w. ⊎_elim (λ v. digit_high (value_of c) (omega arith) ∙ omega arith) (λ v. absurd (omega arith)) w)
-    (value_cases c)
+unfolding digit value_of
+digit_value c h = grind (arith, common_steps)
 
 -- two characters as a pair
-pub pair_digits : (c d : ℕ) → value_of c < 16 → value_of d < 16 → pair_of c d ≡ value_of c * 16 + value_of d
-unfolding pair_of
-pair_digits c d x y = simp (lt-ltb _ _ x, lt-ltb _ _ y)
-
-pub pair_none : (c d : ℕ) → (value_of c < 16 → value_of d < 16 → ⊥) → pair_of c d ≡ 256
-unfolding pair_of
-pair_none c d f =
-    ⊎_elim
-    (λ w. absurd (f (ltb→lt (value_of c) 16 (left_of (ltb (value_of c) 16) (ltb (value_of d) 16) w.0)) (ltb→lt (value_of d) 16 (right_of (ltb (value_of c) 16) (ltb (value_of d) 16) w.0))))
-    (λ w. w.1)
-    (chosen (ltb (value_of c) 16 && ltb (value_of d) 16) (value_of c * 16 + value_of d) 256)
-
 pub pair_bound : (c d : ℕ) → pair_of c d ≤ 256
 unfolding pair_of
-pair_bound c d =
-    ⊎_elim
-    (λ w. omega (arith, w.1, ltb→lt (value_of c) 16 (left_of (ltb (value_of c) 16) (ltb (value_of d) 16) w.0), ltb→lt (value_of d) 16 (right_of (ltb (value_of c) 16) (ltb (value_of d) 16) w.0)))
-    (λ w. omega (arith, w.1))
-    (chosen (ltb (value_of c) 16 && ltb (value_of d) 16) (value_of c * 16 + value_of d) 256)
+pair_bound c d = grind (arith, common_steps)
 
 -- bytes to digits and back
 pub bytes_of-hex : (bs : List ℕ) → Bytes bs → bytes_of (hex bs) ≡ bs
 unfolding bytes_of hex
 bytes_of-hex [] f = refl
-bytes_of-hex (b ∷ bs) f =
-    ap₂ ◌∷◌
-    (let h : b < 256 = f 0 in omega (arith, value_digit (b / 16) (omega arith), value_digit (b % 16) (omega arith)))
-    (bytes_of-hex bs (λ i. f (suc i)))
+bytes_of-hex (b ∷ bs) f = let h : b < 256 = f 0 in grind (arith, value_digit, bytes_of-hex bs (λ i. f (suc i)))
 
 -- a pair of digits in front of digits
 pub hex_more : (c d : ℕ) (cs : List ℕ) → value_of c < 16 → value_of d < 16 → T (is_hex cs) → T (is_hex (c ∷ d ∷ cs))
 unfolding is_hex
-hex_more c d cs x y t =
-    both (ltb (value_of c) 16 && ltb (value_of d) 16) (is_hex cs)
-    (both (ltb (value_of c) 16) (ltb (value_of d) 16) (lt→ltb (value_of c) 16 x) (lt→ltb (value_of d) 16 y))
-    t
+hex_more c d cs x y t = grind (arith, common_steps)
 
 pub hex-first : (c d : ℕ) (cs : List ℕ) → T (is_hex (c ∷ d ∷ cs)) → (value_of c < 16) × (value_of d < 16) × T (is_hex cs)
 unfolding is_hex
-hex-first c d cs t =
-    let s : T (ltb (value_of c) 16 && ltb (value_of d) 16) = left_of (ltb (value_of c) 16 && ltb (value_of d) 16) (is_hex cs) t in (
-      ltb→lt (value_of c) 16 (left_of (ltb (value_of c) 16) (ltb (value_of d) 16) s),
-      ltb→lt (value_of d) 16 (right_of (ltb (value_of c) 16) (ltb (value_of d) 16) s),
-      right_of (ltb (value_of c) 16 && ltb (value_of d) 16) (is_hex cs) t,
-    )
+hex-first c d cs t = grind (arith, common_steps)
 
 pub is_hex-hex : (bs : List ℕ) → Bytes bs → T (is_hex (hex bs))
 unfolding is_hex hex
 is_hex-hex [] f = tt
-is_hex-hex (b ∷ bs) f =
-    let h : b < 256 = f 0 in
-    hex_more (digit (b / 16)) (digit (b % 16)) (hex bs)
-    (omega (arith, value_digit (b / 16) (omega arith)))
-    (omega (arith, value_digit (b % 16) (omega arith)))
-    (is_hex-hex bs (λ i. f (suc i)))
+is_hex-hex (b ∷ bs) f = let h : b < 256 = f 0 in grind (arith, common_steps, value_digit, is_hex-hex bs (λ i. f (suc i)))
 
 -- digits to bytes and back
 pub hex-bytes_of : (cs : List ℕ) → T (is_hex cs) → hex (bytes_of cs) ≡ cs
@@ -130,14 +75,7 @@ hex-bytes_of [] t = refl
 hex-bytes_of (c ∷ []) t = absurd t
 hex-bytes_of (c ∷ d ∷ cs) t =
     let h = hex-first c d cs t in
-    ap₂ ◌∷◌ (ap digit (first (value_of c) (value_of d) h.1) ∙ digit_value c h.0)
-    (ap₂ ◌∷◌ (ap digit (second (value_of c) (value_of d) h.1) ∙ digit_value d h.1) (hex-bytes_of cs h.2))
-  where
-    first : (x y : ℕ) → y < 16 → (x * 16 + y) / 16 ≡ x
-    first x y h = omega arith
-
-    second : (x y : ℕ) → y < 16 → (x * 16 + y) % 16 ≡ y
-    second x y h = omega arith
+    grind (arith, digit_value c h.0, digit_value d h.1, hex-bytes_of cs h.2)
 
 -- what digits mean are bytes, half as many as the digits
 pub bytes_bytes_of : (cs : List ℕ) → T (is_hex cs) → Bytes (bytes_of cs)
@@ -207,19 +145,11 @@ line_means kind payload f = bytes_of-hex (whole kind payload) (whole_bytes kind 
 -- of characters that are digits: well formed exactly with a kind that there is and as many bytes as it has
 pub well_made : (cs : List ℕ) → T (is_hex cs) → T (is_kind (get_or (bytes_of cs) 0 0)) → length (bytes_of cs) ≡ get_or payloads (get_or (bytes_of cs) 0 0) 0 + 2 → T (well_formed cs)
 unfolding well_formed
-well_made cs x t e =
-    both (is_hex cs) (is_kind (get_or (bytes_of cs) 0 0) && eqb (length (bytes_of cs)) (get_or payloads (get_or (bytes_of cs) 0 0) 0 + 2)) x
-    (both (is_kind (get_or (bytes_of cs) 0 0)) (eqb (length (bytes_of cs)) (get_or payloads (get_or (bytes_of cs) 0 0) 0 + 2)) t (eq→eqb (length (bytes_of cs)) (get_or payloads (get_or (bytes_of cs) 0 0) 0 + 2) e))
+well_made cs x t e = grind (arith, common_steps)
 
 pub well_parts : (cs : List ℕ) → T (well_formed cs) → T (is_hex cs) × T (is_kind (get_or (bytes_of cs) 0 0)) × (length (bytes_of cs) ≡ get_or payloads (get_or (bytes_of cs) 0 0) 0 + 2)
 unfolding well_formed
-well_parts cs t =
-    let s : T (is_kind (get_or (bytes_of cs) 0 0) && eqb (length (bytes_of cs)) (get_or payloads (get_or (bytes_of cs) 0 0) 0 + 2))
-    = right_of (is_hex cs) (is_kind (get_or (bytes_of cs) 0 0) && eqb (length (bytes_of cs)) (get_or payloads (get_or (bytes_of cs) 0 0) 0 + 2)) t in (
-      left_of (is_hex cs) (is_kind (get_or (bytes_of cs) 0 0) && eqb (length (bytes_of cs)) (get_or payloads (get_or (bytes_of cs) 0 0) 0 + 2)) t,
-      left_of (is_kind (get_or (bytes_of cs) 0 0)) (eqb (length (bytes_of cs)) (get_or payloads (get_or (bytes_of cs) 0 0) 0 + 2)) s,
-      eqb→eq (length (bytes_of cs)) (get_or payloads (get_or (bytes_of cs) 0 0) 0 + 2) (right_of (is_kind (get_or (bytes_of cs) 0 0)) (eqb (length (bytes_of cs)) (get_or payloads (get_or (bytes_of cs) 0 0) 0 + 2)) s),
-    )
+well_parts cs t = grind (arith, common_steps)
 
 pub line_well : (kind : ℕ) (payload : List ℕ) → Bytes (kind ∷ payload) → T (is_kind kind) → length payload ≡ get_or payloads kind 0 → T (well_formed (hex (whole kind payload)))
 line_well kind payload f t e =
@@ -231,7 +161,7 @@ line_well kind payload f t e =
 pub whole-only : (bs : List ℕ) (m : ℕ) → length bs ≡ m + 2 → Bytes bs → byte_sum bs ≡ 0 → bs ≡ whole (get_or bs 0 0) (take m (drop 1 bs))
 whole-only [] m h f e = absurd (omega arith)
 whole-only (b ∷ bs) m h f e =
-    let parts : bs ≡ take m bs ++ get_or bs m 0 ∷ [] = split_at bs m 0 (omega arith) ∙ ap (λ (l : List ℕ). take m bs ++ get_or bs m 0 ∷ l) (drop_of_length-le bs {i = suc m} (omega arith)) in
+    let parts : bs ≡ take m bs ++ get_or bs m 0 ∷ [] = grind (arith, common_steps, split_at bs m 0 (omega arith)) in
     let last : get_or bs m 0 ≡ sum_byte (b ∷ take m bs) = sum-only (b ∷ take m bs) (get_or bs m 0) (f (suc m)) (sym (ap (λ (l : List ℕ). byte_sum (b ∷ l)) parts) ∙ e) in
     ap (λ (l : List ℕ). b ∷ l) (parts ∙ ap (λ (x : ℕ). take m bs ++ x ∷ []) last)
 

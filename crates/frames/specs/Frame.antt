@@ -1,5 +1,5 @@
 -- Frames: kind, payload and sum byte, as a line of lower-case hexadecimal pairs ended by one line feed.
-use Rattle.std.specs.Prelude.{ℕ, ◌+◌, ◌-◌, ◌*◌, ◌/◌, ◌%◌, Bool, true, false, cond, ◌&&◌, ◌||◌, List, [], ◌∷◌, ◌++◌, length, ◌==◌, nat_le, nat_lt, slice_index}
+use Rattle.std.specs.Prelude.{ℕ, ◌+◌, ◌-◌, ◌*◌, ◌/◌, ◌%◌, Bool, true, false, ◌&&◌, ◌||◌, List, [], ◌∷◌, ◌++◌, length, ◌==◌, nat_le, nat_lt, slice_index, if◌then◌else◌}
 
 -- the payload's length by kind; there is no kind 00
 abbrev pub payloads : List ℕ
@@ -23,10 +23,10 @@ sum_byte bs = (256 - byte_sum bs) % 256
 
 -- a lower-case hexadecimal digit, and the digit that a character is, 16 where it is none
 unfoldable pub digit : ℕ → ℕ
-digit d = cond (nat_lt d 10) (48 + d) (87 + d)
+digit d = if nat_lt d 10 then 48 + d else 87 + d
 
 unfoldable pub value_of : ℕ → ℕ
-value_of c = cond (nat_le 48 c && nat_le c 57) (c - 48) (cond (nat_le 97 c && nat_le c 102) (c - 87) 16)
+value_of c = if nat_le 48 c && nat_le c 57 then c - 48 else (if nat_le 97 c && nat_le c 102 then c - 87 else 16)
 
 -- bytes as pairs of digits, high digit first
 unfoldable pub hex : List ℕ → List ℕ

@@ -1,5 +1,6 @@
 -- What the promises about frames cite.
 pub mod Frame
+pub mod Kinds
 pub mod Characters
 -- What the promises about the order of frames cite.
 pub mod Stages

@@ -1,5 +1,5 @@
 -- The order of frames in an input text: which may follow, and how far the text has come after it.
-use Rattle.std.specs.Prelude.{ℕ, Bool, true, false, cond, ◌||◌, ◌==◌}
+use Rattle.std.specs.Prelude.{ℕ, Bool, true, false, ◌||◌, ◌==◌, if◌then◌else◌}
 use Rattle.frames.specs.declared.stage.Stage.{Stage}
 use Rattle.frames.specs.declared.stage.Stage.TheVariants.{Opening, Linking, Cutting, Closed}
 
@@ -13,8 +13,8 @@ follows Closed kind = false
 -- and how far the text has come after it
 unfoldable pub after : Stage → ℕ → Stage
 after Opening kind = Linking
-after Linking kind = cond (kind == 6) Closed (cond (kind == 3) Cutting Linking)
-after Cutting kind = cond (kind == 6) Closed Cutting
+after Linking kind = if kind == 6 then Closed else (if kind == 3 then Cutting else Linking)
+after Cutting kind = if kind == 6 then Closed else Cutting
 after Closed kind = Closed
 
 unfoldable pub open_at : Stage → Bool

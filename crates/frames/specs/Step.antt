@@ -1,22 +1,13 @@
--- How far judging has come: moved to a place, and behind one frame more. Sums wrap as the numbers of the program do.
-use Rattle.std.specs.Prelude.{◌≡◌, ℕ, ◌+◌, ◌*◌, ◌%◌, ◌^◌, cond, ◌||◌, ◌==◌}
+-- How far judging has come behind one frame more. Sums wrap as the numbers of the program do.
+use Rattle.std.specs.Prelude.{◌≡◌, ℕ, ◌+◌, ◌*◌, ◌%◌, ◌^◌, ◌||◌, ◌==◌, if◌then◌else◌}
 use Rattle.frames.specs.declared.stage.Stage.{Stage}
 use Rattle.frames.specs.declared.stage.Stage.TheVariants.{Linking, Cutting, Closed}
 use Rattle.frames.specs.declared.progress.Progress.{Progress}
 
--- at a place, a line and a stage, with what was read before
-pub record Stands (s s' : Progress) (at line' : ℕ) (stage' : Stage) : Type 0 where
-  pub place : s'.at ≡ at
-  pub line : s'.line ≡ line'
-  pub stage : s'.stage ≡ stage'
-  pub n : s'.n ≡ s.n
-  pub k : s'.k ≡ s.k
-  pub links : s'.links ≡ s.links
-  pub cuts : s'.cuts ≡ s.cuts
-
 -- where a frame leads, by its kind alone: head and link, to the links; cut, to the cuts; note, nowhere; close, to the end
 unfoldable pub leads : Stage → ℕ → Stage
-leads stage kind = cond (kind == 1 || kind == 2) Linking (cond (kind == 3) Cutting (cond (kind == 5) stage Closed))
+leads stage kind =
+    if kind == 1 || kind == 2 then Linking else (if kind == 3 then Cutting else (if kind == 5 then stage else Closed))
 
 -- behind a frame of that kind and so many bytes: past its line feed, one line further, and one link or one cut more
 pub record Stepped (s : Progress) (kind size : ℕ) (s' : Progress) : Type 0 where
@@ -25,5 +16,5 @@ pub record Stepped (s : Progress) (kind size : ℕ) (s' : Progress) : Type 0 whe
   pub stage : s'.stage ≡ leads s.stage kind
   pub n : s'.n ≡ s.n
   pub k : s'.k ≡ s.k
-  pub links : s'.links ≡ cond (kind == 2) ((s.links + 1) % 2 ^ 32) s.links
-  pub cuts : s'.cuts ≡ cond (kind == 3) ((s.cuts + 1) % 2 ^ 32) s.cuts
+  pub links : s'.links ≡ (if kind == 2 then (s.links + 1) % 2 ^ 32 else s.links)
+  pub cuts : s'.cuts ≡ (if kind == 3 then (s.cuts + 1) % 2 ^ 32 else s.cuts)

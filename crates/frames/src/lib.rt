@@ -3,6 +3,7 @@
 
 pub mod digits;
 pub mod frame;
+pub mod kind;
 pub mod progress;
 pub mod stage;
 pub mod write;

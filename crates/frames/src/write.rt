@@ -5,11 +5,12 @@ ghost use Rattle.frames.specs.Frame.{byte_sum, digit, hex, line};
 ghost use Rattle.frames.specs.Placing.{Puts};
 
 // The character of a digit.
+#[tactic(auto, unfolding(crate::specs::Frame::digit))]
 fn digit_of(d: u8) -> u8
     requires { d < 16 }
     ensures { result ≡ digit d }
 {
-    if d < 10 { 48 + d } else { 87 + d }
+    if d < 10 { b'0' + d } else { b'a' - 10 + d }
 }
 
 // A byte at a place, as two digits.
@@ -24,15 +25,13 @@ fn put_byte(room: &mut [u8], at: usize, b: u8)
 // Bytes at a place, as pairs of digits; gives their sum, the carry thrown away, from a first byte on.
 fn put_bytes(room: &mut [u8], at: usize, first: u8, bytes: &[u8]) -> u8
     requires { at + 2 * length bytes.now ≤ length room.old }
-    ensures { (result ≡ byte_sum (first ∷ bytes.now)) × (room.new ≡ over room.old at (hex bytes.now)) }
+    ensures value { result ≡ byte_sum (first ∷ bytes.now) }
+    ensures room_after { room.new ≡ over room.old at (hex bytes.now) }
 {
     let mut sum = first;
-    let mut i = 0;
-    while i < bytes.len() {
-        let b = bytes[i];
-        put_byte(room, at + 2 * i, b);
-        sum = std::num::wrapping_add_u8(sum, b);
-        i += 1;
+    for (i, b) in bytes.iter().enumerate() {
+        put_byte(room, at + 2 * i, *b);
+        sum = sum.wrapping_add(*b);
     }
     sum
 }
@@ -40,13 +39,14 @@ fn put_bytes(room: &mut [u8], at: usize, first: u8, bytes: &[u8]) -> u8
 // The line of a frame at a place, in room that it fits in; gives the place behind it.
 fn write_line(room: &mut [u8], at: usize, kind: u8, payload: &[u8]) -> usize
     requires { at + (2 * length payload.now + 5) ≤ length room.old }
-    ensures { (result ≡ at + length (line kind payload.now)) × (room.new ≡ over room.old at (line kind payload.now)) }
+    ensures value { result ≡ at + length (line kind payload.now) }
+    ensures room_after { room.new ≡ over room.old at (line kind payload.now) }
 {
     put_byte(room, at, kind);
     let sum = put_bytes(room, at + 2, kind, payload);
     let end = at + 2 + 2 * payload.len();
-    put_byte(room, end, std::num::wrapping_sub_u8(0, sum));
-    room[end + 2] = 10;
+    put_byte(room, end, sum.wrapping_neg());
+    room[end + 2] = b'\n';
     end + 3
 }
 
@@ -54,17 +54,14 @@ fn write_line(room: &mut [u8], at: usize, kind: u8, payload: &[u8]) -> usize
 fn too_short(room: usize, at: usize, payload: usize) -> bool
     ensures { result ≡ nat_lt room (at + (2 * payload + 5)) }
 {
-    if room < at {
+    if room < at || room - at < 5 {
         return true;
     }
-    let left = room - at;
-    if left < 5 {
-        return true;
-    }
-    (left - 5) / 2 < payload
+    (room - at - 5) / 2 < payload
 }
 
 // The line of a frame at a place; gives the place behind it. Where the room is too short, nothing is written, and the place is given.
+// The kind is a number, and room and place are two parameters, since `line` and `Puts` promise it so of any number and any place.
 pub fn put_line(room: &mut [u8], at: usize, kind: u8, payload: &[u8]) -> usize
     ensures { Puts room.old at (line kind payload.now) room.new result }
 {

@@ -2,11 +2,10 @@
 pub mod LinksRows
 pub mod LinksBytes
 -- The laws of link records.
+pub mod FormFront
 pub mod RecordsKept
 -- The laws of the pair table.
 pub mod TableSpots
 pub mod TableAdds
 pub mod TableHeld
 pub mod TableRaised
--- The laws of going through a run of link records.
-pub mod RecordsRows

@@ -1,6 +1,7 @@
 -- Laws of links lent as bytes: how many there are, and which stands in a place.
 -- Assumes nothing.
-use Rattle.std.proofs.Common.{◌≡◌, ℕ, zero, suc, ◌+◌, ◌*◌, ◌/◌, ◌<◌, ◌≤◌, not, T, ltb, ◌⊎◌, List, [], ◌∷◌, length, get_or, drop, sym, refl, ap, ◌∙◌, inl, inr, add-zero, add-one, arith, ltb→lt, nltb→le, length-drop, drop_of_length-le, get_or-drop, drop-cons, drop-drop}
+use Rattle.std.proofs.Common.{◌≡◌, ℕ, zero, suc, ◌+◌, ◌*◌, ◌/◌, ◌<◌, ◌≤◌, not, T, ltb, ◌⊎◌, List, [], ◌∷◌, length, get_or, take, drop, sym, refl, ap, ◌∙◌, inl, inr, add-zero, add-one, arith, ltb→lt, nltb→le, length-drop, get_or-take, drop_of_length-le, get_or-drop, drop-cons, drop-drop}
+use Rattle.std.specs.Simd.{first_chunks}
 use native.Mathlib.Numerals.{towards_suc}
 use lib.ListN.{get_or-eq_default}
 use Rattle.meaning.specs.declared.Link.{Link}
@@ -65,6 +66,22 @@ links_of_at bytes i d h =
     ap (λ (j : ℕ). get_or (links_of bytes) j d) (sym (add-zero i))
     ∙ sym (get_or-drop i (links_of bytes) 0 d)
     ∙ ap (λ (ls : List Link). get_or ls 0 d) (sym (links_of-drop bytes i) ∙ links_of_next bytes i h refl)
+
+-- the same of the four bytes that are read as one chunk
+chunk_at : (k i : ℕ) (bytes d : List ℕ) → i < k → get_or (first_chunks 4 k bytes) i d ≡ take 4 (drop (i * 4) bytes)
+chunk_at zero i bytes d h = absurd (omega (arith, h))
+chunk_at (suc k) zero bytes d h = refl
+chunk_at (suc k) (suc i) bytes d h =
+    let step : 4 + i * 4 ≡ suc i * 4 = omega arith in
+    chunk_at k i (drop 4 bytes) d (omega (arith, h)) ∙ ap (take 4) (drop-drop (i * 4) 4 bytes ∙ ap (λ (j : ℕ). drop j bytes) step)
+
+pub links_of_chunk : (bytes : List ℕ) (i tally : ℕ) (d : Link) (four e : List ℕ) → i < length bytes / 4 → four ≡ get_or (first_chunks 4 (length bytes / 4) bytes) i e
+    → tally ≡ get_or four 2 0 * 256 + get_or four 3 0 → ◌≡◌ {A = Link} (record { a = get_or four 0 0; b = get_or four 1 0; tally = tally }) (get_or (links_of bytes) i d)
+unfolding link_at
+links_of_chunk bytes i tally d four e h c t =
+    let byte : (j : ℕ) → j < 4 → get_or four j 0 ≡ get_or bytes (i * 4 + j) 0 =
+    λ j l. rw (c ∙ chunk_at (length bytes / 4) i bytes e h) (get_or-take 4 (drop (i * 4) bytes) j 0 l ∙ get_or-drop (i * 4) bytes j 0) in
+    rw (t, byte 0 (omega arith), byte 1 (omega arith), byte 2 (omega arith), byte 3 (omega arith), add-zero) (sym (links_of_at bytes i d h))
 
 -- past the last there is none
 pub links_of_past : (bytes : List ℕ) (i : ℕ) (d : Link) → length bytes / 4 ≤ i → d ≡ get_or (links_of bytes) i d

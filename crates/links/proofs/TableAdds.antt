@@ -1,9 +1,9 @@
 -- Laws of taking links in, one after the other: the first i of them were accepted and are added, and the next is judged.
 -- Assumes nothing.
-use Rattle.std.proofs.Common.{◌≡◌, ℕ, ◌+◌, ◌<◌, ◌≤◌, List, [], ◌∷◌, ◌++◌, length, get_or, take, drop, sym, refl, ap, ◌∙◌, ap₂, add-one, take_all, take-suc}
+use Rattle.std.proofs.Common.{Err, ◌≡◌, ℕ, ◌+◌, ◌%◌, ◌<◌, ◌≤◌, List, [], ◌∷◌, ◌++◌, length, get_or, take, drop, sym, refl, ap, ◌∙◌, ap₂, add-one, mod-eq_of_lt, take_all, take-suc}
 use Rattle.meaning.specs.declared.Link.{Link}
-use Rattle.meaning.specs.declared.Judged.TheVariants.{Accepted, Refused}
-use Rattle.meaning.specs.Judge.{first}
+use Rattle.meaning.specs.declared.Refusal.{Refusal}
+use Rattle.meaning.specs.Judge.{Accepted, first}
 use Rattle.links.specs.Links.{link_rows, links_rows}
 use Rattle.links.proofs.LinksRows.{links_next, links_stop, links_none, link-place}
 use Rattle.links.specs.Table.{added, tallied, filled}
@@ -15,9 +15,13 @@ tallied_append t [] ys = refl
 tallied_append t (l ∷ ls) ys = tallied_append (added t l) ls ys
 
 -- a refusal of rows 1, 2 or 3 stands before all links
-pub filled_none : (number place : ℕ) (t : List ℕ) (links : List Link) → place ≡ 0 → t ≡ filled (Refused number place) t links
+pub filled_none : (refusal : Refusal) (t : List ℕ) (links : List Link) → refusal.place ≡ 0 → t ≡ filled (Err refusal) t links
 unfolding filled tallied
-filled_none number place t links e = rw e
+filled_none refusal t links e = rw e
+
+-- a link whose ends are below 128 is added as it is
+pub added_within : (t : List ℕ) (l : Link) → l.a < 128 → l.b < 128 → added t (record { a = l.a % 128; b = l.b % 128; tally = l.tally }) ≡ added t l
+added_within t l ha hb = rw (mod-eq_of_lt ha, mod-eq_of_lt hb) refl
 
 module _ (n : ℕ) (links : List Link) (t : List ℕ) where
   -- of the links, i are in the table u, which was t; the first refusal of all is the first of those that are left
@@ -42,11 +46,11 @@ module _ (n : ℕ) (links : List Link) (t : List ℕ) where
               ∙ ap (tallied t) (sym (take-suc links i d h) ∙ ap (λ (j : ℕ). take j links) (sym (add-one i)));
         }
 
-    pub taken-stop : (number place : ℕ) → first (link_rows n i l) ≡ Refused number place → (first (links_rows n 0 links) ≡ Refused number place) × (u ≡ filled (Refused number place) t links)
+    pub taken-stop : (refusal : Refusal) → first (link_rows n i l) ≡ Err refusal → (first (links_rows n 0 links) ≡ Err refusal) × (u ≡ filled (Err refusal) t links)
     unfolding filled
-    taken-stop number place r = (
-      s.left ∙ links_stop n links i d h number place (ap (λ (m : Link). first (link_rows n i m)) (sym e) ∙ r),
-      s.table ∙ ap (λ (j : ℕ). tallied t (take j links)) (sym (link-place n i l number place r)),
+    taken-stop refusal r = (
+      s.left ∙ links_stop n links i d h refusal (ap (λ (m : Link). first (link_rows n i m)) (sym e) ∙ r),
+      s.table ∙ ap (λ (j : ℕ). tallied t (take j links)) (sym (link-place n i l refusal r)),
     )
 
   pub taken_all : (i : ℕ) {u : List ℕ} → length links ≤ i → Taken i u → (first (links_rows n 0 links) ≡ Accepted) × (u ≡ filled Accepted t links)

@@ -4,8 +4,7 @@ use Rattle.std.proofs.Common.{◌≡◌, ℕ, suc, ◌+◌, ◌*◌, ◌^◌, �
 use lib.ListN.{length-replicate, get_or-replicate}
 use borrow.Author.Tests.{eqb-false}
 use Rattle.meaning.specs.declared.Link.{Link}
-use Rattle.meaning.specs.declared.Judged.TheVariants.{Accepted}
-use Rattle.meaning.specs.Judge.{first}
+use Rattle.meaning.specs.Judge.{Accepted, first}
 use Rattle.meaning.specs.Tally.{joins, pair_tally}
 use Rattle.meaning.proofs.Totals.{Symmetric}
 use Rattle.links.specs.Links.{table_rows}

@@ -1,6 +1,7 @@
 -- Where the tally of a pair stands in the table: one spot for a pair, and no other pair's.
 -- Assumes nothing.
-use Rattle.std.proofs.Common.{◌≡◌, ℕ, ◌<◌, Bool, true, false, not, ◌&&◌, ◌||◌, T, eqb, ◌⊎◌, sym, refl, ◌∙◌, ap₂, inl, inr, ⊎_elim, arith, eqb→eq}
+use Rattle.std.proofs.Common.{◌≡◌, ℕ, ◌<◌, not, ◌&&◌, ◌||◌, T, eqb, ◌⊎◌, sym, ◌∙◌, ap₂, inl, inr, ⊎_elim, arith, eqb→eq}
+use Rattle.std.proofs.Math.Bool.{or_comm}
 use Rattle.meaning.specs.declared.Link.{Link}
 use Rattle.meaning.specs.Tally.{joins}
 use Rattle.meaning.proofs.Tests.{both, either, left_of, right_of, or_left, or_right, decide, same_test, eq→eqb, neqb→ne}
@@ -10,15 +11,9 @@ pub spot_symmetric : (i j : ℕ) → spot i j ≡ spot j i
 unfolding spot
 spot_symmetric i j = omega arith
 
-or_turn : (a b : Bool) → (a || b) ≡ (b || a)
-or_turn true true = refl
-or_turn true false = refl
-or_turn false true = refl
-or_turn false false = refl
-
 pub joins_symmetric : (l : Link) (i j : ℕ) → joins l i j ≡ joins l j i
 unfolding joins
-joins_symmetric l i j = or_turn (eqb l.a i && eqb l.b j) (eqb l.a j && eqb l.b i)
+joins_symmetric l i j = or_comm (eqb l.a i && eqb l.b j) (eqb l.a j && eqb l.b i)
 
 pub spot_below : (i j : ℕ) → i < 128 → j < 128 → spot i j < 16384
 unfolding spot

@@ -1,23 +1,17 @@
 -- Runs of link records: what the functions over them say of one link and of those before it.
-use Rattle.std.specs.Prelude.{◌≡◌, ℕ, Bool, cond, ◌&&◌, List, [], ◌∷◌, length, ◌==◌, nat_lt, slice_index}
+use Rattle.std.specs.Prelude.{◌≡◌, ℕ, Bool, ◌&&◌, List, length, take, filter, ◌==◌, nat_lt, slice_index}
+use Rattle.std.specs.Result.{result_and}
 use Rattle.meaning.specs.declared.Link.{Link}
-use Rattle.meaning.specs.declared.Judged.{Judged}
-use Rattle.meaning.specs.declared.Judged.TheVariants.{Accepted, Refused}
-use Rattle.meaning.specs.Room.{fitted}
+use Rattle.meaning.specs.Judge.{Judged}
+use Rattle.meaning.specs.Room.{over}
 
 -- the link of noughts, which stands where there is none
 abbrev pub no_link : Link
 no_link = record { a = 0; b = 0; tally = 0 }
 
 -- the first refusal of two
-unfoldable pub first_of : Judged → Judged → Judged
-first_of Accepted j = j
-first_of (Refused number place) j = Refused number place
-
--- how many links are to be gone through: all, or none once an input is refused
-unfoldable pub up_to : Judged → ℕ → ℕ
-up_to Accepted count = count
-up_to (Refused number place) count = 0
+abbrev pub first_of : Judged → Judged → Judged
+first_of = result_and
 
 -- whether both ends of a link carry the same label; a run of labels has 128
 unfoldable pub same_label : List ℕ → Link → Bool
@@ -25,9 +19,13 @@ same_label labels l = (nat_lt l.a 128 && nat_lt l.b 128) && slice_index labels l
 
 -- the links whose ends do, in order
 unfoldable pub kept_links : List ℕ → List Link → List Link
-kept_links labels [] = []
-kept_links labels (l ∷ ls) = cond (same_label labels l) (l ∷ kept_links labels ls) (kept_links labels ls)
+kept_links labels = filter (same_label labels)
 
--- they are kept at the front of lent room, as many as it takes, and their number is given
-abbrev pub KeepsLinks : List ℕ → List Link → List Link → List Link → ℕ → Type 0
-KeepsLinks labels links room room' r = (r ≡ length (kept_links labels links)) × (room' ≡ fitted room 0 (kept_links labels links))
+-- lent room after links were written to its front, as many as it takes, in the form of its elements: `links_in` reads links out of a run, `written` writes them
+abbrev pub front : {A : Type 0} → (List A → List Link) → (List Link → List A) → List A → List Link → List A
+front links_in written room links = over room 0 (written (take (length (links_in room)) links))
+
+-- they are kept at the front of lent room, and their number is given
+abbrev pub KeepsLinks : {A : Type 0} → (List A → List Link) → (List Link → List A) → List ℕ → List A → List A → List A → ℕ → Type 0
+KeepsLinks links_in written labels links room room' r =
+    (r ≡ length (kept_links labels (links_in links))) × (room' ≡ front links_in written room (kept_links labels (links_in links)))

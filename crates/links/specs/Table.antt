@@ -1,9 +1,8 @@
 -- The pair table: 128 by 128 tallies in one flat run. A pair's tally stands once, in the row of its greater bone, so that every table
 -- holds a symmetric tally.
-use Rattle.std.specs.Prelude.{ℕ, ◌+◌, ◌-◌, ◌*◌, ◌%◌, ◌^◌, min, max, List, [], ◌∷◌, take, slice_index, slice_set}
+use Rattle.std.specs.Prelude.{ℕ, ◌+◌, ◌-◌, ◌*◌, ◌%◌, ◌^◌, min, max, List, [], ◌∷◌, take, slice_index, slice_set, Ok, Err}
 use Rattle.meaning.specs.declared.Link.{Link}
-use Rattle.meaning.specs.declared.Judged.{Judged}
-use Rattle.meaning.specs.declared.Judged.TheVariants.{Accepted, Refused}
+use Rattle.meaning.specs.Judge.{Judged}
 use Rattle.meaning.specs.Tally.{Tally}
 
 -- where the tally of a pair stands
@@ -21,13 +20,9 @@ raised t i j x = slice_set t (spot i j) ((slice_index t (spot i j) + x) % 2 ^ 32
 unfoldable pub lowered : List ℕ → ℕ → ℕ → ℕ → List ℕ
 lowered t i j x = raised t i j (2 ^ 32 - x)
 
--- the table after one link was added to it; after that link was judged, which is added where it is accepted; and after a run of links
+-- the table after one link was added to it, and after a run of links
 unfoldable pub added : List ℕ → Link → List ℕ
 added t l = raised t l.a l.b l.tally
-
-unfoldable pub taken : Judged → List ℕ → Link → List ℕ
-taken Accepted t l = added t l
-taken (Refused number place) t l = t
 
 unfoldable pub tallied : List ℕ → List Link → List ℕ
 tallied t [] = t
@@ -35,5 +30,5 @@ tallied t (l ∷ ls) = tallied (added t l) ls
 
 -- the table that a call leaves which was to add a run of links: all are added, or those before the one that was refused
 unfoldable pub filled : Judged → List ℕ → List Link → List ℕ
-filled Accepted t links = tallied t links
-filled (Refused number place) t links = tallied t (take place links)
+filled (Ok done) t links = tallied t links
+filled (Err refusal) t links = tallied t (take refusal.place links)

@@ -8,21 +8,14 @@ use meaning::Link;
 pub fn link_at(links: &[Link], i: usize) -> Link
     ensures { result ≡ slice_index_or links.now i no_link }
 {
-    if i < links.len() {
-        links[i]
-    } else {
-        Link {
-            a: 0,
-            b: 0,
-            tally: 0,
-        }
-    }
+    links.get(i).copied().unwrap_or(Link::NONE)
 }
 
 // The link is put in place i, and the others stay; past the end nothing changes.
 pub fn store_link(links: &mut [Link], i: usize, l: Link)
     ensures { links.new ≡ slice_set links.old i l }
 {
+    // Not `get_mut`: once that borrow is over, a proof knows the run's length and not its links.
     if i < links.len() {
         links[i] = l;
     }
@@ -32,12 +25,7 @@ pub fn store_link(links: &mut [Link], i: usize, l: Link)
 pub fn same_label(labels: &[u8; 128], l: Link) -> bool
     ensures { result ≡ same_label labels.now l }
 {
-    let a = l.a as usize;
-    let b = l.b as usize;
-    if a < 128 {
-        if b < 128 {
-            return labels[a] == labels[b];
-        }
-    }
-    false
+    let a = usize::from(l.a);
+    let b = usize::from(l.b);
+    a < 128 && b < 128 && labels[a] == labels[b]
 }

@@ -1,5 +1,6 @@
 -- The laws about the meaning, from the ground up, and the theorems.
 pub mod Tests
+pub mod Judge
 pub mod Sums
 pub mod Totals
 pub mod Tallies

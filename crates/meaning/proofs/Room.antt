@@ -11,8 +11,9 @@ use native.Mathlib.Omega.{arith}
 use lib.Dec.{leb, ltb, leb→le, nleb→lt, ltb→lt, nltb→le}
 use lib.ListN.{length, set, take, drop, length-append, length-drop, length-take, drop_of_length-le, take-append-drop}
 use lib.Seq.{length-take-le, take_all, take_at, drop_at, drop-drop, set_split, set_out, append_snoc, take-append-le, take-take, take-add}
-use Rattle.meaning.specs.declared.Judged.{Judged}
-use Rattle.meaning.specs.declared.Judged.TheVariants.{Accepted, Refused}
+use Rattle.std.specs.Prelude.{Err}
+use Rattle.meaning.specs.declared.Refusal.{Refusal}
+use Rattle.meaning.specs.Judge.{Judged, Accepted}
 use Rattle.meaning.specs.Room.{over, fitted, settled}
 use Rattle.meaning.proofs.Tests.{decide}
 
@@ -22,7 +23,7 @@ pub settled_new : {A : Type 0} {j : Judged} (was new : A) → j ≡ Accepted →
 unfolding settled
 settled_new was new e = rw e
 
-pub settled_was : {A : Type 0} {j : Judged} {number place : ℕ} (was new : A) → j ≡ Refused number place → settled j was new ≡ was
+pub settled_was : {A : Type 0} {j : Judged} {refusal : Refusal} (was new : A) → j ≡ Err refusal → settled j was new ≡ was
 unfolding settled
 settled_was was new e = rw e
 

@@ -1,29 +1,15 @@
--- How much is printed of an answer: by what the answer is, and that it is in the space.
+-- How much is printed of an answer: that it is in the space, and all of it where all that was written is.
 -- Assumes nothing.
-use Prim.Native.Nat.{ℕ, min, ◌≤◌}
-use mathlib.Core.Path.{◌≡◌}
-use native.Mathlib.Omega.{arith}
-use Rattle.texts.specs.declared.Written.{Written}
-use Rattle.texts.specs.declared.Written.TheVariants.{Wrote, Refused}
+use Rattle.std.proofs.Common.{ℕ, ◌≤◌, ◌≡◌, Result, Ok, Err, arith}
+use Rattle.meaning.specs.declared.Refusal.{Refusal}
 use Rattle.shell.specs.Shown.{shown}
 
-pub shown_bytes : {r : Written} {count : ℕ} (room size : ℕ) → r ≡ Wrote count → size ≡ min count room → size ≡ shown r room
+pub least : (r : Result ℕ Refusal) (room : ℕ) → shown r room ≤ room
 unfolding shown
-shown_bytes room size e f = rw e f
-
-pub shown_none : {r : Written} {number place : ℕ} (room : ℕ) → r ≡ Refused number place → 0 ≡ shown r room
-unfolding shown
-shown_none room e = rw e
-
-least : (r : Written) (room : ℕ) → shown r room ≤ room
-unfolding shown
-least (Wrote count) room = omega arith
-least (Refused number place) room = omega arith
-
-pub shown_fits : (r : Written) (room size : ℕ) → size ≡ shown r room → size ≤ room
-shown_fits r room size e = omega (arith, least r room)
+least (Ok count) room = omega arith
+least (Err refusal) room = omega arith
 
 -- all that was written, where it was written to the space
-pub shown_all : (count room : ℕ) → count ≤ room → shown (Wrote count) room ≡ count
+pub shown_all : (count room : ℕ) → count ≤ room → shown (Ok count) room ≡ count
 unfolding shown
 shown_all count room h = omega arith

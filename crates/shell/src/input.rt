@@ -11,6 +11,7 @@ pub const ROOM: usize = 65537;
 pub fn read_input(mut input: Stdin, room: &mut [u8]) -> usize
     ensures { (result ≤ length room.new) × (result ≡ length (take result room.new)) }
 {
+    // The size is counted by hand: std's read_to_end needs a heap, and its read_exact does not say how many bytes came before the end.
     let mut size = 0;
     while size < room.len() {
         match input.read(&mut room[size..]) {

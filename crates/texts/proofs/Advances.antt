@@ -9,28 +9,35 @@ use native.Mathlib.Numerals.{add-one}
 use native.Mathlib.Omega.{arith}
 use lib.Dec.{T, eqb, eqb→eq}
 use lib.ListN.{length, drop, length-append, drop_of_length-le}
-use Rattle.meaning.specs.declared.Judged.{Judged}
-use Rattle.meaning.specs.declared.Judged.TheVariants.{Accepted, Refused}
-use Rattle.meaning.specs.Judge.{first}
+use Rattle.std.proofs.Common.{Ok, Err}
+use Rattle.meaning.specs.declared.Refusal.{Refusal}
+use Rattle.meaning.specs.declared.Row.TheVariants.{Order}
+use Rattle.meaning.specs.Judge.{Accepted, answered, first}
 use Rattle.meaning.proofs.Tests.{holds, fails, decide, neqb→ne}
 use Rattle.cutting.specs.Record.{entry_size}
-use Rattle.texts.specs.declared.Reading.TheVariants.{Got, Refused as Refused·reading}
+use Rattle.texts.specs.declared.Reading.{Reading}
 use Rattle.texts.specs.declared.frame.Frame.{Frame}
 use Rattle.frames.specs.declared.stage.Stage.{Stage}
 use Rattle.frames.specs.declared.stage.Stage.TheVariants.{Opening, Linking, Cutting, Closed}
 use Rattle.frames.specs.declared.progress.Progress.{Progress}
+use Rattle.frames.specs.Kinds.{number_of}
 use Rattle.frames.specs.Step.{leads, Stepped}
 use Rattle.frames.proofs.Stages.{leads_on}
 use Rattle.frames.proofs.Steps.{one_more, as_many}
 use Rattle.frames.specs.Stages.{after, open_at}
 use Rattle.texts.specs.Lines.{Line, lines_of, line_rows}
-use Rattle.texts.specs.Reader.{read, entry_in, links_in, entries_in, bones_in, threshold_in}
-use Rattle.texts.specs.Walk.{byte_at, digits_at, size_at, FrameFound}
-use Rattle.texts.specs.Judging.{Passes, LineJudged, Bounded, Ready, Advanced, head_from, reading_of, read_from}
+use Rattle.texts.specs.Reader.{entry_in, found_in, links_in, entries_in, bones_in, threshold_in}
+use Rattle.texts.specs.Walk.{byte_at, digits_at, size_at}
+use Rattle.texts.specs.Judging.{Passes, Bounded, Ready, Advanced, head_from, read_from}
 use Rattle.texts.proofs.Lines.{front}
 use Rattle.texts.proofs.Walks.{size_of, well_digits, well_room}
-use Rattle.texts.proofs.Judging.{row_applies, row_passes, rest, rest_at, rows_pass, head_read, head_kept}
+use Rattle.texts.proofs.Rows.{row_applies, row_passes, answered_accepted, answered_refused}
+use Rattle.texts.proofs.Judging.{rest, rest_at, rows_pass, head_read, head_kept}
 use Rattle.texts.proofs.ReadsText.{bones_front, threshold_front, links_front, links_skip, entries_front, entries_skip, entry_length}
+
+-- a reading of these numbers
+abbrev pub numbers : ℕ → ℕ → ℕ → ℕ → Reading
+numbers n k links cuts = record { n = n; k = k; links = links; cuts = cuts }
 
 -- behind the frame at a place, one line further
 pub record Moved (text : List ℕ) (s s' : Progress) : Type 0 where
@@ -53,11 +60,11 @@ module _ (text : List ℕ) (s s' : Progress) (small : Bounded text s) (p : Passe
       let stage = sym m.stage in
       let rows = rows_pass (drop s.at text) s.stage s.line p in
       let line : suc s.line ≡ s'.line = sym (add-one s.line) ∙ sym m.line in
-      (λ i. reading_of (rows i) (en i) (ek i) (el i) (ec i))
+      (λ i. answered (rows i) (numbers (en i) (ek i) (el i) (ec i)))
       ∙ (λ i.
-      reading_of (first (line_rows (stage i) (line i) (rest_here i))) (head_from (stage i) (bones_in (rest_here i)) s'.n)
-      (head_from (stage i) (threshold_in (rest_here i)) s'.k) (s'.links + length (links_in (rest_here i)))
-      (s'.cuts + length (entries_in (rest_here i)) / entry_size))
+      answered (first (line_rows (stage i) (line i) (rest_here i)))
+      (numbers (head_from (stage i) (bones_in (rest_here i)) s'.n) (head_from (stage i) (threshold_in (rest_here i)) s'.k)
+      (s'.links + length (links_in (rest_here i))) (s'.cuts + length (entries_in (rest_here i)) / entry_size)))
 
   small_here : s'.links ≤ s.links + 1 → s'.cuts ≤ s.cuts + 1 → Bounded text s'
   small_here a b =
@@ -139,109 +146,112 @@ module _ (text : List ℕ) (s s' : Progress) (small : Bounded text s) (p : Passe
 
 -- the frame stands within the text
 ready_room : (text : List ℕ) (s : Progress) (f : Frame) → Ready text s f → s.at + 2 * f.size < length text
-ready_room text s f r = omega (arith, well_room text s.at r.passes.well, r.found.size r.some)
+ready_room text s f r = omega (arith, well_room text s.at r.line.passes.well, r.line.frame.size)
 
 -- the same, from the frame that was found and the step behind it
-module _ (text : List ℕ) (s t : Progress) (f : Frame) (r : Ready text s f) (p : Stepped s f.kind f.size t) where
+module _ (text : List ℕ) (s t : Progress) (f : Frame) (r : Ready text s f) (p : Stepped s (number_of f.kind) f.size t) where
   abbrev kind_here : ℕ
   kind_here = byte_at (drop s.at text) 0
 
-  found_kind : f.kind ≡ kind_here
-  found_kind = r.found.kind r.some
+  found_kind : number_of f.kind ≡ kind_here
+  found_kind = r.line.frame.kind
 
   moved : Moved text s t
   moved =
       let small = r.small in
       let place : t.at ≡ s.at + 2 * f.size + 1 = omega (arith, p.place, ready_room text s f r) in
       record {
-        place = place ∙ ap (λ (n : ℕ). s.at + 2 * n + 1) (r.found.size r.some);
+        place = place ∙ ap (λ (n : ℕ). s.at + 2 * n + 1) r.line.frame.size;
         line = omega (arith, p.line);
-        stage = p.stage ∙ ap (leads s.stage) found_kind ∙ leads_on s.stage kind_here r.passes.order;
+        stage = p.stage ∙ ap (leads s.stage) found_kind ∙ leads_on s.stage kind_here r.line.passes.order;
       }
 
-  more_links : f.kind ≡ 2 → t.links ≡ s.links + 1
-  more_links e = let small = r.small in one_more f.kind 2 s.links t.links e (omega arith) p.links
+  more_links : number_of f.kind ≡ 2 → t.links ≡ s.links + 1
+  more_links e = let small = r.small in one_more (number_of f.kind) 2 s.links t.links e (omega arith) p.links
 
-  more_cuts : f.kind ≡ 3 → t.cuts ≡ s.cuts + 1
-  more_cuts e = let small = r.small in one_more f.kind 3 s.cuts t.cuts e (omega arith) p.cuts
+  more_cuts : number_of f.kind ≡ 3 → t.cuts ≡ s.cuts + 1
+  more_cuts e = let small = r.small in one_more (number_of f.kind) 3 s.cuts t.cuts e (omega arith) p.cuts
 
-  same_links : (f.kind ≡ 2 → ⊥) → t.links ≡ s.links
-  same_links g = as_many f.kind 2 s.links t.links g p.links
+  same_links : (number_of f.kind ≡ 2 → ⊥) → t.links ≡ s.links
+  same_links g = as_many (number_of f.kind) 2 s.links t.links g p.links
 
-  same_cuts : (f.kind ≡ 3 → ⊥) → t.cuts ≡ s.cuts
-  same_cuts g = as_many f.kind 3 s.cuts t.cuts g p.cuts
+  same_cuts : (number_of f.kind ≡ 3 → ⊥) → t.cuts ≡ s.cuts
+  same_cuts g = as_many (number_of f.kind) 3 s.cuts t.cuts g p.cuts
 
   -- behind a head, with its numbers
-  pub go_head : (n k : ℕ) → f.kind ≡ 1 → n ≡ byte_at (drop s.at text) 1 → k ≡ byte_at (drop s.at text) 2 * 256 + byte_at (drop s.at text) 3
+  pub go_head : (n k : ℕ) → number_of f.kind ≡ 1 → n ≡ byte_at (drop s.at text) 1 → k ≡ byte_at (drop s.at text) 2 * 256 + byte_at (drop s.at text) 3
       → Advanced text s (record { at = t.at; line = t.line; stage = t.stage; n = n; k = k; links = t.links; cuts = t.cuts })
   go_head n k e en ek =
-      advance_head text s (record { at = t.at; line = t.line; stage = t.stage; n = n; k = k; links = t.links; cuts = t.cuts }) r.small r.passes
+      advance_head text s (record { at = t.at; line = t.line; stage = t.stage; n = n; k = k; links = t.links; cuts = t.cuts }) r.small r.line.passes
       (record { place = moved.place; line = moved.line; stage = moved.stage }) (sym found_kind ∙ e) en ek
       (same_links (λ q. omega arith)) (same_cuts (λ q. omega arith))
 
   -- behind any other frame
-  pub go_on : (f.kind ≡ 1 → ⊥) → Advanced text s t
+  pub go_on : (number_of f.kind ≡ 1 → ⊥) → Advanced text s t
   go_on no-head =
       ⊎_elim
       (λ u.
-      let e = eqb→eq f.kind 2 u in
-      advance_link text s t r.small r.passes moved (sym found_kind ∙ e) p.n p.k (more_links e) (same_cuts (λ q. omega arith)))
-      (λ u. without_link (neqb→ne f.kind 2 u))
-      (decide (eqb f.kind 2))
+      let e = eqb→eq (number_of f.kind) 2 u in
+      advance_link text s t r.small r.line.passes moved (sym found_kind ∙ e) p.n p.k (more_links e) (same_cuts (λ q. omega arith)))
+      (λ u. without_link (neqb→ne (number_of f.kind) 2 u))
+      (decide (eqb (number_of f.kind) 2))
     where
-      no_cut : (f.kind ≡ 2 → ⊥) → (f.kind ≡ 3 → ⊥) → Advanced text s t
+      no_cut : (number_of f.kind ≡ 2 → ⊥) → (number_of f.kind ≡ 3 → ⊥) → Advanced text s t
       no_cut b c =
-          advance_other text s t r.small r.passes moved (λ e. no-head (found_kind ∙ e)) (λ e. b (found_kind ∙ e)) (λ e. c (found_kind ∙ e)) p.n p.k
+          advance_other text s t r.small r.line.passes moved (λ e. no-head (found_kind ∙ e)) (λ e. b (found_kind ∙ e)) (λ e. c (found_kind ∙ e)) p.n p.k
           (same_links b) (same_cuts c)
 
-      without_link : (f.kind ≡ 2 → ⊥) → Advanced text s t
+      without_link : (number_of f.kind ≡ 2 → ⊥) → Advanced text s t
       without_link b =
           ⊎_elim
           (λ u.
-          let e = eqb→eq f.kind 3 u in
-          advance_cut text s t r.small r.passes moved (sym found_kind ∙ e) p.n p.k (same_links b) (more_cuts e))
-          (λ u. no_cut b (neqb→ne f.kind 3 u))
-          (decide (eqb f.kind 3))
+          let e = eqb→eq (number_of f.kind) 3 u in
+          advance_cut text s t r.small r.line.passes moved (sym found_kind ∙ e) p.n p.k (same_links b) (more_cuts e))
+          (λ u. no_cut b (neqb→ne (number_of f.kind) 3 u))
+          (decide (eqb (number_of f.kind) 3))
 
 -- a head's bytes are digits
-pub head_digits : (text : List ℕ) (s : Progress) (f : Frame) → Ready text s f → f.kind ≡ 1 → (i : ℕ) → i < 5 → T (digits_at (drop s.at text) i)
+pub head_digits : (text : List ℕ) (s : Progress) (f : Frame) → Ready text s f → number_of f.kind ≡ 1 → (i : ℕ) → i < 5 → T (digits_at (drop s.at text) i)
 head_digits text s f r e i h =
-    well_digits (drop s.at text) r.passes.well i
-    (omega (arith, size_of (drop s.at text) 1 (sym (r.found.kind r.some) ∙ e)))
+    well_digits (drop s.at text) r.line.passes.well i
+    (omega (arith, size_of (drop s.at text) 1 (sym r.line.frame.kind ∙ e)))
 
-pub head_room : (text : List ℕ) (s : Progress) (f : Frame) → Ready text s f → f.kind ≡ 1 → s.at + 10 < length text
-head_room text s f r e = omega (arith, ready_room text s f r, r.found.size r.some, size_of (drop s.at text) 1 (sym (r.found.kind r.some) ∙ e))
+pub head_room : (text : List ℕ) (s : Progress) (f : Frame) → Ready text s f → number_of f.kind ≡ 1 → s.at + 10 < length text
+head_room text s f r e = omega (arith, ready_room text s f r, r.line.frame.size, size_of (drop s.at text) 1 (sym r.line.frame.kind ∙ e))
 
 -- reading from the start, to a refusal, and to the end
-abbrev pub beginning : Progress
+abbrev beginning : Progress
 beginning = record { at = 0; line = 0; stage = Opening; n = 0; k = 0; links = 0; cuts = 0 }
 
-pub read-start : (ls : List Line) → read (first (line_rows Opening 0 ls)) ls ≡ read_from beginning ls
-unfolding read_from head_from read reading_of
-read-start ls = by_row (first (line_rows Opening 0 ls))
-  where
-    by_row : (j : Judged) → read j ls ≡ reading_of j (bones_in ls) (threshold_in ls) (0 + length (links_in ls)) (0 + length (entries_in ls) / entry_size)
-    by_row Accepted =
-        let a : length (links_in ls) ≡ 0 + length (links_in ls) = omega arith in
-        let b : length (entries_in ls) / entry_size ≡ 0 + length (entries_in ls) / entry_size = omega arith in
-        λ i. Got (bones_in ls) (threshold_in ls) (a i) (b i)
-    by_row (Refused number place) = refl
+whole_text : (ls : List Line) → answered (first (line_rows Opening 0 ls)) (found_in ls) ≡ read_from beginning ls
+unfolding read_from head_from found_in
+whole_text ls =
+    let a : length (links_in ls) ≡ 0 + length (links_in ls) = omega arith in
+    let b : length (entries_in ls) / entry_size ≡ 0 + length (entries_in ls) / entry_size = omega arith in
+    λ i. answered (first (line_rows Opening 0 ls)) (numbers (bones_in ls) (threshold_in ls) (a i) (b i))
 
-pub read-refused : (s : Progress) (ls : List Line) (number place : ℕ) → first (line_rows s.stage s.line ls) ≡ Refused number place
-    → read_from s ls ≡ Refused·reading number place
-unfolding read_from reading_of
-read-refused s ls number place e =
-    ap (λ (j : Judged). reading_of j (head_from s.stage (bones_in ls) s.n) (head_from s.stage (threshold_in ls) s.k) (s.links + length (links_in ls)) (s.cuts + length (entries_in ls) / entry_size)) e
+pub read_start : (text : List ℕ) (s : Progress) → length text ≤ 65536
+    → (s.at ≡ 0) × ((s.line ≡ 0) × ((s.stage ≡ Opening) × ((s.n ≡ 0) × ((s.k ≡ 0) × ((s.links ≡ 0) × (s.cuts ≡ 0))))))
+    → Bounded text s × (answered (first (line_rows Opening 0 (lines_of text))) (found_in (lines_of text)) ≡ read_from s (lines_of (drop s.at text)))
+read_start text s h e =
+    let same : s ≡ beginning
+    = λ i. record { at = e.0 i; line = e.1.0 i; stage = e.1.1.0 i; n = e.1.1.1.0 i; k = e.1.1.1.1.0 i; links = e.1.1.1.1.1.0 i; cuts = e.1.1.1.1.1.1 i } in
+    (omega arith, whole_text (lines_of text) ∙ sym (ap (λ (t : Progress). read_from t (lines_of (drop t.at text))) same))
+
+pub read_refused : (s : Progress) (ls : List Line) (refusal : Refusal) → first (line_rows s.stage s.line ls) ≡ Err refusal → read_from s ls ≡ Err refusal
+unfolding read_from
+read_refused s ls refusal e = answered_refused _ e
 
 at_end : (text : List ℕ) (s : Progress) → length text ≤ s.at → lines_of (drop s.at text) ≡ []
 unfolding lines_of
 at_end text s h = ap lines_of (drop_of_length-le text {i = s.at} h)
 
-pub read_open : (text : List ℕ) (s : Progress) → length text ≤ s.at → open_at s.stage ≡ true → read_from s (lines_of (drop s.at text)) ≡ Refused·reading 18 s.line
+pub read_open : (text : List ℕ) (s : Progress) → length text ≤ s.at → open_at s.stage ≡ true
+    → read_from s (lines_of (drop s.at text)) ≡ Err (record { row = Order; place = s.line })
 unfolding line_rows
 read_open text s h e =
-    read-refused s (lines_of (drop s.at text)) 18 s.line
-    (ap (λ (ls : List Line). first (line_rows s.stage s.line ls)) (at_end text s h) ∙ row_applies (open_at s.stage) 18 s.line [] (holds e))
+    read_refused s (lines_of (drop s.at text)) _
+    (ap (λ (ls : List Line). first (line_rows s.stage s.line ls)) (at_end text s h) ∙ row_applies (open_at s.stage) Order s.line [] (holds e))
 
 closed_only : (stage : Stage) → open_at stage ≡ false → stage ≡ Closed
 unfolding open_at
@@ -251,22 +261,14 @@ closed_only Cutting e = absurd (true≢false e)
 closed_only Closed e = refl
 
 pub read_end : (text : List ℕ) (s : Progress) → length text ≤ s.at → open_at s.stage ≡ false
-    → read_from s (lines_of (drop s.at text)) ≡ Got s.n s.k s.links s.cuts
-unfolding read_from reading_of head_from line_rows first links_in entries_in
+    → read_from s (lines_of (drop s.at text)) ≡ Ok (numbers s.n s.k s.links s.cuts)
+unfolding read_from head_from line_rows first links_in entries_in
 read_end text s h e =
     let none = at_end text s h in
     let shut = closed_only s.stage e in
-    let rows : first (line_rows s.stage s.line []) ≡ Accepted = row_passes (open_at s.stage) 18 s.line [] (fails e) in
+    let rows : first (line_rows s.stage s.line []) ≡ Accepted = row_passes (open_at s.stage) Order s.line [] (fails e) in
     let a : s.links + 0 ≡ s.links = omega arith in
     let b : s.cuts + 0 / entry_size ≡ s.cuts = omega arith in
     ap (read_from s) none
-    ∙ (λ i. reading_of (rows i) (head_from (shut i) (bones_in []) s.n) (head_from (shut i) (threshold_in []) s.k) (a i) (b i))
-
-pub ready : (text : List ℕ) (s : Progress) (f : Frame) (number : ℕ) → Bounded text s → FrameFound (drop s.at text) f
-    → LineJudged (drop s.at text) s.stage s.line number → number ≡ 0 → Ready text s f
-ready text s f number small found judged e =
-    let p = judged.passed e in
-    record { small = small; some = sized f.size (λ z. found.none z p.well); found = found; passes = p }
-  where
-    sized : (n : ℕ) → (n ≡ 0 → ⊥) → 0 < n
-    sized n g = omega arith
+    ∙ answered_accepted _ rows
+    ∙ (λ i. Ok (numbers (head_from (shut i) (bones_in []) s.n) (head_from (shut i) (threshold_in []) s.k) (a i) (b i)))

@@ -1,22 +1,27 @@
--- A writer whose text stands at the front of the room lent for it: row 20, and then what it gives and leaves.
+-- What a writer gives and leaves, by what its rows come to; and row 20, which asks whether its text fits the room lent for it.
 -- Assumes nothing.
-use Prim.Native.Nat.{ℕ, ◌≤◌, ◌<◌}
-use mathlib.Core.Path.{◌≡◌, refl, ap}
-use mathlib.Core.List.{List}
-use borrow.Author.Tests.{lt-ltb, le-ltb}
-use lib.Dec.{ltb}
-use lib.ListN.{length}
-use Rattle.meaning.specs.Judge.{refuse}
-use Rattle.meaning.specs.Room.{over, settled}
-use Rattle.texts.specs.declared.Written.TheVariants.{Wrote, Refused}
-use Rattle.texts.specs.Writing.{wrote, Writes}
+use Rattle.std.proofs.Common.{◌≡◌, ℕ, ◌≤◌, ◌<◌, List, length, Ok, Err, sym, ap, ◌∙◌, lt-ltb, le-ltb}
+use Rattle.meaning.specs.declared.Refusal.{Refusal}
+use Rattle.meaning.specs.declared.Row.TheVariants.{TextSpace}
+use Rattle.meaning.specs.Judge.{Judged, Accepted, Refused, refuse}
+use Rattle.meaning.specs.Room.{over}
+use Rattle.meaning.proofs.Room.{settled_new, settled_was}
+use Rattle.texts.specs.Writing.{text_row, Writes}
+use Rattle.texts.proofs.Rows.{answered_accepted, answered_refused}
 
-pub writes_short : (text room : List ℕ) → length room < length text → Writes (refuse (ltb (length room) (length text)) 20 0) text room room (Refused 20 0)
-unfolding refuse settled wrote
-writes_short text room h = rw (lt-ltb _ _ h) (record { answer = refl; text_left = refl })
+module _ (text room : List ℕ) {j : Judged} where
+  pub writes_refused : {refusal : Refusal} → j ≡ Err refusal → Writes j text room room (Err refusal)
+  writes_refused e = record { answer = sym (answered_refused (length text) e); text_left = sym (settled_was room (over room 0 text) e) }
 
-pub writes_whole : (text room room' : List ℕ) (count : ℕ) → length text ≤ length room → count ≡ length text → room' ≡ over room 0 text
-    → Writes (refuse (ltb (length room) (length text)) 20 0) text room room' (Wrote count)
-unfolding refuse settled wrote
-writes_whole text room room' count h e f =
-    rw (le-ltb _ _ h) (record { answer = ap Wrote e; text_left = f })
+  pub writes_done : (room' : List ℕ) (count : ℕ) → j ≡ Accepted → count ≡ length text → room' ≡ over room 0 text → Writes j text room room' (Ok count)
+  writes_done room' count e c f =
+      record { answer = ap Ok c ∙ sym (answered_accepted (length text) e); text_left = f ∙ sym (settled_new room (over room 0 text) e) }
+
+module _ (text : List ℕ) (room : ℕ) where
+  pub too_short : room < length text → text_row text room ≡ Refused TextSpace 0
+  unfolding refuse
+  too_short h = rw (lt-ltb room (length text) h)
+
+  pub long_enough : length text ≤ room → text_row text room ≡ Accepted
+  unfolding refuse
+  long_enough h = rw (le-ltb room (length text) h)

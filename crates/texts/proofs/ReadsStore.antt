@@ -9,20 +9,19 @@ use native.Mathlib.Nat.{eq-or-lt_of_le, le_of_suc-le-suc}
 use native.Mathlib.Numerals.{add-one}
 use native.Mathlib.Omega.{arith}
 use borrow.Author.Tests.{eq-eqb, ne_eqb}
-use lib.Dec.{T, eqb, eqb→eq}
+use lib.Dec.{T, eqb}
 use lib.ListN.{length, get_or, set, drop, length-append, length-drop, drop_of_length-le, get_or-append}
 use lib.Seq.{ext_get_or, get_or_at}
 use Rattle.meaning.proofs.Tests.{left_of, right_of}
 use Rattle.meaning.specs.Room.{over}
-use Rattle.meaning.proofs.Room.{over_nil, over_next, length_over}
+use Rattle.meaning.proofs.Room.{over_nil, over_next}
 use Rattle.cutting.specs.Record.{entry_size}
 use Rattle.frames.specs.Frame.{well_formed}
 use Rattle.texts.specs.Lines.{Line, lines_of, kind}
 use Rattle.texts.specs.Reader.{link_in, entry_in, links_in, entries_in}
 use Rattle.texts.specs.Walk.{byte_at, size_at, Well}
 use Rattle.texts.specs.Judging.{all_well}
-use Rattle.texts.specs.Storing.{skip_to, Skipped, payload_at}
-use Rattle.frames.proofs.Frames.{chosen}
+use Rattle.texts.specs.Storing.{skip_to, FoundAt, payload_at}
 use Rattle.texts.proofs.Lines.{front, front_lines, front_kind, well_first, well_first_lem}
 use Rattle.texts.proofs.Walks.{well_room}
 use Rattle.texts.proofs.Judging.{rest, rest_at, lines_some}
@@ -36,12 +35,6 @@ first_well (l ∷ ls) h t = left_of (l.ended && well_formed l.characters) (all_w
 
 pub all_front : (cs : List ℕ) → 0 < length cs → T (all_well (lines_of cs)) → Well cs
 all_front cs h t = well_first_lem cs (first_well (lines_of cs) (lines_some cs h) t)
-
--- and where there are lines there are characters
-text_some : (cs : List ℕ) → 0 < length (lines_of cs) → 0 < length cs
-unfolding lines_of
-text_some [] h = h
-text_some (c ∷ cs) h = omega arith
 
 pub all_rest : (cs : List ℕ) → Well cs → T (all_well (lines_of cs)) → T (all_well (rest cs))
 unfolding all_well
@@ -63,12 +56,13 @@ skip_here cs w k e =
 pub skip_on : (cs : List ℕ) → Well cs → (k : ℕ) → (byte_at cs 0 ≡ k → ⊥) → skip_to k (lines_of cs) ≡ skip_to k (rest cs)
 skip_on cs w k f = skip_told cs w k ∙ ap (λ (b : Bool). cond b (front cs ∷ rest cs) (skip_to k (rest cs))) (ne_eqb (byte_at cs 0) k f)
 
-pub skip_end : (text : List ℕ) (at k : ℕ) → length text ≤ at → lines_of (drop at text) ≡ skip_to k (lines_of (drop at text))
+skip_end : (text : List ℕ) (at k : ℕ) → length text ≤ at → skip_to k (lines_of (drop at text)) ≡ []
 unfolding lines_of skip_to
 skip_end text at k h = rw (drop_of_length-le text {i = at} h)
 
 -- how far a walk over the frames has come: what is to be found is still to be found
 pub record Onward (text : List ℕ) (from k at : ℕ) : Type 0 where
+  pub onward : from ≤ at
   pub within : at ≤ length text
   pub well : T (all_well (lines_of (drop at text)))
   pub lines : skip_to k (lines_of (drop at text)) ≡ skip_to k (lines_of (drop from text))
@@ -81,16 +75,28 @@ module _ (text : List ℕ) (from k at : ℕ) (o : Onward text from k at) where
   onward_more h f next e =
       let w = onward_well h in
       record {
+        onward = omega (arith, o.onward);
         within = omega (arith, well_room text at w);
         well = subst (λ (ls : List Line). T (all_well ls)) (rest_at text at next e) (all_rest (drop at text) w o.well);
         lines = ap (skip_to k) (sym (rest_at text at next e)) ∙ sym (skip_on (drop at text) w k f) ∙ o.lines;
       }
 
-  pub onward_here : at < length text → byte_at (drop at text) 0 ≡ k → Skipped text from k at
-  onward_here h e = record { within = o.within; lines = skip_here (drop at text) (onward_well h) k e ∙ o.lines; well = o.well }
+  pub onward_here : at < length text → byte_at (drop at text) 0 ≡ k → (next : ℕ) → next ≡ at + 2 * size_at (drop at text) + 1
+      → FoundAt text from k (record { at = at; next = next })
+  onward_here h e next q =
+      let w = onward_well h in
+      record {
+        lines = skip_here (drop at text) w k e ∙ o.lines;
+        frame = w;
+        kind = e;
+        next = q;
+        further = omega (arith, o.onward);
+        within = omega (arith, well_room text at w);
+        well = subst (λ (ls : List Line). T (all_well ls)) (rest_at text at next q) (all_rest (drop at text) w o.well);
+      }
 
-  pub onward_end : length text ≤ at → Skipped text from k at
-  onward_end h = record { within = o.within; lines = skip_end text at k h ∙ o.lines; well = o.well }
+  pub onward_end : length text ≤ at → skip_to k (lines_of (drop from text)) ≡ []
+  onward_end h = sym o.lines ∙ skip_end text at k h
 
 -- the first bytes of a payload: how many, and which
 pub payload_length : (cs : List ℕ) (i : ℕ) → length (payload_at cs i) ≡ i
@@ -132,23 +138,7 @@ stored_more cs space to i b h e =
     ∙ over_next space to (payload_at cs i) (byte_at cs (i + 1)) (omega arith)
     ∙ ap (over space to) (payload_next cs i)
 
-pub stored_length : (cs space : List ℕ) (to i : ℕ) → to + i ≤ length space → length (over space to (payload_at cs i)) ≡ length space
-stored_length cs space to i h = length_over space to (payload_at cs i) (omega (arith, payload_length cs i))
-
--- the frame that was found: of that kind, with nothing of it passed over
-head_kind : ℕ → List Line → ℕ
-head_kind k [] = k
-head_kind k (l ∷ ls) = kind l
-
-skip_kind : (k : ℕ) (ls : List Line) → head_kind k (skip_to k ls) ≡ k
-unfolding head_kind skip_to
-skip_kind k [] = refl
-skip_kind k (l ∷ ls) =
-    ⊎_elim
-    (λ c. ap (head_kind k) c.1 ∙ eqb→eq (kind l) k c.0)
-    (λ c. ap (head_kind k) c.1 ∙ skip_kind k ls)
-    (chosen (eqb (kind l) k) (l ∷ ls) (skip_to k ls))
-
+-- frames of other kinds hold no links, and no entries
 pub skip_links : (ls : List Line) → links_in (skip_to 2 ls) ≡ links_in ls
 unfolding links_in skip_to
 skip_links [] = refl
@@ -166,20 +156,3 @@ skip_entries (l ∷ ls) = by_kind (eqb (kind l) 3) refl (skip_entries ls)
     by_kind : (b : Bool) → eqb (kind l) 3 ≡ b → entries_in (skip_to 3 ls) ≡ entries_in ls → entries_in (cond (eqb (kind l) 3) (l ∷ ls) (skip_to 3 ls)) ≡ cond (eqb (kind l) 3) (entry_in l ++ entries_in ls) (entries_in ls)
     by_kind true e h = rw e (rw e)
     by_kind false e h = rw e h
-
-module _ (text : List ℕ) (at k p : ℕ) (s : Skipped text at k p) (some : 0 < length (lines_of (drop p text))) where
-  pub skipped_well : Well (drop p text)
-  skipped_well = all_front (drop p text) (text_some (drop p text) some) s.well
-
-  pub skipped_kind : byte_at (drop p text) 0 ≡ k
-  unfolding head_kind
-  skipped_kind =
-      sym (front_kind (drop p text) skipped_well)
-      ∙ ap (head_kind k) (sym (front_lines (drop p text) skipped_well) ∙ s.lines)
-      ∙ skip_kind k (lines_of (drop at text))
-
-  pub skipped_rest : (next : ℕ) → next ≡ p + 2 * size_at (drop p text) + 1 → (next ≤ length text) × T (all_well (lines_of (drop next text)))
-  skipped_rest next e = (
-    omega (arith, well_room text p skipped_well),
-    subst (λ (ls : List Line). T (all_well ls)) (rest_at text p next e) (all_rest (drop p text) skipped_well s.well),
-  )

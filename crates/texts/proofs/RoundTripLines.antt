@@ -1,13 +1,13 @@
 -- The line of a frame as the reader has it: what is read from it, and that rows 16 to 19 pass over it.
 -- Assumes nothing.
 use Prim.Native.Nat.{ℕ, suc, ◌+◌, ◌*◌}
-use mathlib.Core.Path.{◌≡◌, refl, ◌∙◌, ap}
-use mathlib.Core.Bool.{Bool, true, false, not, ◌&&◌}
+use mathlib.Core.Path.{◌≡◌, ◌∙◌, ap}
+use mathlib.Core.Bool.{true, not, ◌&&◌}
 use mathlib.Core.List.{List, [], ◌∷◌, ◌++◌, append_assoc}
 use lib.Dec.{T, eqb}
 use lib.ListN.{length, get_or}
-use Rattle.meaning.specs.declared.Judged.{Judged}
-use Rattle.meaning.specs.Judge.{refuse, first}
+use Rattle.meaning.specs.declared.Row.TheVariants.{Line as LineRow, Sum, Order, Close}
+use Rattle.meaning.specs.Judge.{first}
 use Rattle.meaning.proofs.Tests.{eq→eqb}
 use Rattle.frames.specs.Frame.{payloads, is_kind, byte_sum, hex, line, well_formed}
 use Rattle.frames.specs.declared.stage.Stage.{Stage}
@@ -15,21 +15,12 @@ use Rattle.frames.specs.Stages.{follows, after}
 use Rattle.texts.specs.Lines.{Line, lines_of, frame, kind, pair, line_rows}
 use Rattle.meaning.specs.Bytes.{Bytes}
 use Rattle.frames.proofs.Frames.{whole, whole_bytes, whole_sum, line_means, line_well, is_hex-hex}
+use Rattle.texts.proofs.Rows.{row_passes, twice}
 use Rattle.texts.proofs.Lines.{lines_ended, plain_digits}
 
 -- the line that a frame is written as
 abbrev pub line_of : ℕ → List ℕ → Line
 line_of kind payload = record { characters = hex (whole kind payload); ended = true }
-
--- a row that does not refuse is passed
-pub passes : (b : Bool) (number place : ℕ) (js : List Judged) → T (not b) → first (refuse b number place ∷ js) ≡ first js
-unfolding refuse first
-passes true number place js t = absurd t
-passes false number place js t = refl
-
-pub not-not : (b : Bool) → T b → T (not (not b))
-not-not true t = tt
-not-not false t = absurd t
 
 module _ (k : ℕ) (payload : List ℕ) (bytes : Bytes (k ∷ payload)) where
   pub first-line : (rest : List ℕ) → lines_of (line k payload ++ rest) ≡ line_of k payload ∷ lines_of rest
@@ -58,7 +49,7 @@ module _ (k : ℕ) (payload : List ℕ) (bytes : Bytes (k ∷ payload)) where
   unfolding line_rows
   row_passed t e stage i ls f c =
       rw kind_is
-      (passes _ 16 i _ (not-not (well_formed (hex (whole k payload))) (line_well k payload bytes t e))
-      ∙ passes _ 17 i _ (not-not (eqb (byte_sum (frame (line_of k payload))) 0) (eq→eqb (byte_sum (frame (line_of k payload))) 0 (ap byte_sum frame_is ∙ whole_sum k payload)))
-      ∙ passes _ 18 i _ (not-not (follows stage k) f)
-      ∙ passes _ 19 i _ c)
+      (row_passes _ LineRow i _ (twice (well_formed (hex (whole k payload))) (line_well k payload bytes t e))
+      ∙ row_passes _ Sum i _ (twice (eqb (byte_sum (frame (line_of k payload))) 0) (eq→eqb (byte_sum (frame (line_of k payload))) 0 (ap byte_sum frame_is ∙ whole_sum k payload)))
+      ∙ row_passes _ Order i _ (twice (follows stage k) f)
+      ∙ row_passes _ Close i _ c)

@@ -10,9 +10,9 @@ use lib.Dec.{T, eqb, eqb→eq, T_not}
 use lib.ListN.{length, get_or, take, drop, length-append, length-drop}
 use lib.Seq.{drop-cons, length-take-le, take_at, drop_at}
 use Rattle.meaning.specs.declared.Link.{Link}
-use Rattle.meaning.specs.declared.Judged.TheVariants.{Accepted}
-use Rattle.meaning.specs.Judge.{first}
-use Rattle.meaning.proofs.Tests.{left_of, right_of, either, eq→eqb, neqb→ne, is_true, is_false, decide, taut, so, ◌⊃◌}
+use Rattle.meaning.specs.declared.Row.TheVariants.{Line as LineRow, Sum, Order, Close}
+use Rattle.meaning.specs.Judge.{Accepted, first}
+use Rattle.meaning.proofs.Tests.{left_of, right_of, either, eq→eqb, neqb→ne, is_true, taut, so, ◌⊃◌}
 use Rattle.cutting.specs.Record.{entry_size}
 use Rattle.frames.specs.Frame.{payloads, byte_sum, line, well_formed}
 use Rattle.frames.specs.declared.stage.Stage.{Stage}
@@ -25,7 +25,7 @@ use Rattle.texts.specs.Inputs.{input_text}
 use Rattle.texts.specs.Writers.{unnoted}
 use Rattle.meaning.specs.Bytes.{Bytes}
 use Rattle.frames.proofs.Frames.{bytes_bytes_of, well_parts, line-only}
-use Rattle.texts.proofs.WritesRows.{row_accepted}
+use Rattle.texts.proofs.Rows.{row_accepted, once}
 
 -- a text is its lines, one behind the other
 pub joined : List Line → List ℕ
@@ -47,10 +47,6 @@ joined_lines (c ∷ cs) = feed c cs (eqb c 10) refl (joined_lines cs)
     feed c cs true e h = ap₂ ◌∷◌ (sym (eqb→eq c 10 (subst T (sym e) tt))) h
     feed c cs false e h = joined-before c (lines_of cs) ∙ ap (λ (l : List ℕ). c ∷ l) h
 
-shown : (b : Bool) → T (not (not b)) → T b
-shown true t = tt
-shown false t = t
-
 -- what rows 16 to 19 show of a line that they pass
 record Passed (stage : Stage) (i : ℕ) (l : Line) (ls : List Line) : Type 0 where
   ended : T l.ended
@@ -63,16 +59,16 @@ record Passed (stage : Stage) (i : ℕ) (l : Line) (ls : List Line) : Type 0 whe
 passed : (stage : Stage) (i : ℕ) (l : Line) (ls : List Line) → first (line_rows stage i (l ∷ ls)) ≡ Accepted → Passed stage i l ls
 unfolding line_rows
 passed stage i l ls e =
-    let r₁ = row_accepted _ 16 i _ e in
-    let r₂ = row_accepted _ 17 i _ r₁.1 in
-    let r₃ = row_accepted _ 18 i _ r₂.1 in
-    let r₄ = row_accepted _ 19 i _ r₃.1 in
-    let both = shown (l.ended && well_formed l.characters) r₁.0 in
+    let r₁ = row_accepted _ LineRow i _ e in
+    let r₂ = row_accepted _ Sum i _ r₁.1 in
+    let r₃ = row_accepted _ Order i _ r₂.1 in
+    let r₄ = row_accepted _ Close i _ r₃.1 in
+    let both = once (l.ended && well_formed l.characters) r₁.0 in
     record {
       ended = left_of l.ended (well_formed l.characters) both;
       well = right_of l.ended (well_formed l.characters) both;
-      sum = eqb→eq (byte_sum (frame l)) 0 (shown (eqb (byte_sum (frame l)) 0) r₂.0);
-      order = shown (follows stage (kind l)) r₃.0;
+      sum = eqb→eq (byte_sum (frame l)) 0 (once (eqb (byte_sum (frame l)) 0) r₂.0);
+      order = once (follows stage (kind l)) r₃.0;
       counted = r₄.0;
       rest = r₄.1;
     }
@@ -153,20 +149,6 @@ module _ (stage : Stage) (i : ℕ) (l : Line) (ls : List Line) (p : Passed stage
       ∙ ap (λ (x : ℕ). line x (take (get_or payloads x 0) (drop 1 (frame l))) ++ joined ls) e
       ∙ ap (λ (xs : List ℕ). line 6 xs ++ joined ls)
       (taken 2 1 (frame l) (omega arith) ∙ sym (two-pair (get_or (frame l) 1 0) (get_or (frame l) 2 0) (frame_bytes 2)) ∙ ap two (count_is e))
-
--- the entries that are read are whole
-pub entries_whole : (stage : Stage) (i : ℕ) (ls : List Line) → first (line_rows stage i ls) ≡ Accepted → length (entries_in ls) % entry_size ≡ 0
-unfolding entries_in
-entries_whole stage i [] e = refl
-entries_whole stage i (l ∷ ls) e =
-    let p = passed stage i l ls e in
-    let h = entries_whole (after stage (kind l)) (suc i) ls p.rest in
-    ⊎_elim
-    (λ t.
-    rw (is_true (eqb (kind l) 3) t)
-    (omega (arith, length-append (entry_in l) (entries_in ls), entry_long stage i l ls p (eqb→eq (kind l) 3 t))))
-    (λ t. rw (is_false (eqb (kind l) 3) t) h)
-    (decide (eqb (kind l) 3))
 
 -- nothing stands after the close
 nothing-after : (i : ℕ) (ls : List Line) → first (line_rows Closed i ls) ≡ Accepted → ls ≡ []
@@ -262,7 +244,7 @@ cutting_step i l ls p t ih =
 
 unclosed : (stage : Stage) (i : ℕ) → T (open_at stage) → first (line_rows stage i []) ≡ Accepted → ⊥
 unfolding line_rows
-unclosed stage i t e = T_not (open_at stage) (row_accepted (open_at stage) 18 i [] e).0 t
+unclosed stage i t e = T_not (open_at stage) (row_accepted (open_at stage) Order i [] e).0 t
 
 cutting_back : (ls : List Line) (i : ℕ) → first (line_rows Cutting i ls) ≡ Accepted → T (unnoted ls) → AtClose i ls
 unfolding open_at

@@ -8,8 +8,7 @@ use lib.Dec.{T, eqb}
 use lib.ListN.{length, get_or, take, drop, length-drop}
 use lib.Seq.{length-take-le, take_all, take-add, take_at}
 use Rattle.meaning.specs.declared.Link.{Link}
-use Rattle.meaning.specs.declared.Judged.TheVariants.{Accepted}
-use Rattle.meaning.specs.Judge.{refuse, first}
+use Rattle.meaning.specs.Judge.{Accepted, refuse, first}
 use Rattle.meaning.proofs.Tests.{eq→eqb}
 use Rattle.cutting.specs.Record.{entry_size}
 use Rattle.frames.specs.Frame.{is_kind, line}
@@ -21,7 +20,8 @@ use Rattle.texts.specs.Reader.{link_in, links_in, entry_in, entries_in, bones_in
 use Rattle.texts.specs.Kinds.{two, head_line, link_line, link_lines, cut_lines, close_line}
 use Rattle.texts.specs.Inputs.{InFrame, AllInFrames, input_text}
 use Rattle.meaning.specs.Bytes.{Bytes}
-use Rattle.texts.proofs.RoundTripLines.{line_of, first-line, frame_is, kind_is, pair_is, row_passed, not-not}
+use Rattle.texts.proofs.RoundTripLines.{line_of, first-line, frame_is, kind_is, pair_is, row_passed}
+use Rattle.texts.proofs.Rows.{twice}
 
 -- runs of bytes
 pub bytes_none : Bytes []
@@ -165,7 +165,7 @@ close_rows : (i : ℕ) (stage : Stage) → i < 65536 → T (follows stage 6) →
 unfolding is_kind two line_rows open_at refuse first
 close_rows i stage h t e =
     let count : pair (line_of 6 (two i)) 1 ≡ i = pair_is 6 (two i) (close_bytes_are i h) 1 ∙ omega arith in
-    row_passed 6 (two i) (close_bytes_are i h) tt refl stage i [] t (not-not (eqb (pair (line_of 6 (two i)) 1) i) (eq→eqb (pair (line_of 6 (two i)) 1) i count))
+    row_passed 6 (two i) (close_bytes_are i h) tt refl stage i [] t (twice (eqb (pair (line_of 6 (two i)) 1) i) (eq→eqb (pair (line_of 6 (two i)) 1) i count))
     ∙ ap (λ (s : Stage). first (line_rows s (suc i) [])) e
 
 ending_rows : (m : ℕ) (bytes : List ℕ) (i : ℕ) → Bytes bytes → entry_size * m ≤ length bytes → i + m < 65536

@@ -1,12 +1,12 @@
 -- Lines of a kind, one behind the other: their lengths, and one line more.
 -- Assumes nothing.
-use Prim.Native.Nat.{ℕ, zero, suc, ◌+◌, ◌*◌, ◌-◌, ◌/◌, ◌%◌, ◌≤◌, ◌<◌}
+use Prim.Native.Nat.{ℕ, zero, suc, ◌+◌, ◌*◌, ◌/◌, ◌%◌, ◌≤◌, ◌<◌}
 use mathlib.Core.Path.{◌≡◌, refl, sym, ap, ap₂, subst, ◌∙◌}
 use mathlib.Core.List.{List, [], ◌∷◌, ◌++◌, append_assoc, append-nil}
 use native.Mathlib.Numerals.{add-one}
 use native.Mathlib.Omega.{arith}
-use lib.ListN.{length, take, drop, length-append, length-drop}
-use lib.Seq.{length-take-le, drop-drop}
+use lib.ListN.{length, get_or, take, drop, length-append, length-drop}
+use lib.Seq.{length-take-le, drop-drop, take_at, drop_at}
 use Rattle.meaning.specs.declared.Link.{Link}
 use Rattle.meaning.specs.Heap.{Heap}
 use Rattle.cutting.specs.Record.{entry_size}
@@ -17,11 +17,14 @@ use Rattle.meaning.proofs.Room.{onto}
 use Rattle.frames.proofs.Writes.{length-line}
 use Rattle.frames.specs.Placing.{Puts}
 
--- a line whose payload ends in a number, from the two bytes that the number has
-pub puts_two : (room room' : List ℕ) (at r kind : ℕ) (front : List ℕ) (x y m : ℕ) → x ≡ m / 256 → y ≡ m % 256 → Puts room at (line kind (front ++ x ∷ y ∷ [])) room' r
+-- a line whose payload ends in a number, from the bytes that the number has
+pub puts_two : (room room' : List ℕ) (at r kind : ℕ) (front : List ℕ) (m : ℕ) (bytes : List ℕ) → m < 65536 → bytes ≡ m / 256 % 256 ∷ m % 256 ∷ []
+    → Puts room at (line kind (front ++ get_or bytes 0 0 ∷ get_or bytes 1 0 ∷ [])) room' r
     → Puts room at (line kind (front ++ two m)) room' r
 unfolding two
-puts_two room room' at r kind front x y m high low put = subst (λ (b : List ℕ). Puts room at (line kind (front ++ b)) room' r) (ap₂ (λ (i j : ℕ). i ∷ j ∷ []) high low) put
+puts_two room room' at r kind front m bytes h e put =
+    let high : m / 256 % 256 ≡ m / 256 = omega arith in
+    subst (λ (b : List ℕ). Puts room at (line kind (front ++ b)) room' r) (ap (λ (xs : List ℕ). get_or xs 0 0 ∷ get_or xs 1 0 ∷ []) e ∙ ap (λ (x : ℕ). x ∷ m % 256 ∷ []) high) put
 
 -- lines of one frame
 pub length_head : (n k : ℕ) → length (head_line n k) ≡ line_size 1
@@ -89,29 +92,34 @@ unfolding label_lines
 labels_same zero h g f = refl
 labels_same (suc n) h g f = ap₂ (λ (r : List ℕ) (x : ℕ). r ++ label_line n x) (labels_same n h g (λ b l. f b (omega arith))) (f n (omega arith))
 
--- a turn of the loop that writes cuts: the entry in place i as a part of the run, its line's length, and the line behind those before it
+-- a turn of the loop that writes cuts: the entry in place i, its line's length, and the line behind those before it
+abbrev pub entry : List ℕ → ℕ → List ℕ
+entry bytes i = take entry_size (drop (entry_size * i) bytes)
+
 module _ (bytes : List ℕ) (i : ℕ) (h : i < length bytes / entry_size) where
-  abbrev pub part : List ℕ
-  part = take (entry_size * i + entry_size - entry_size * i) (drop (entry_size * i) bytes)
-
-  part_is : part ≡ take entry_size (drop (entry_size * i) bytes)
-  part_is = let e : entry_size * i + entry_size - entry_size * i ≡ entry_size = omega arith in ap (λ (m : ℕ). take m (drop (entry_size * i) bytes)) e
-
-  pub length_part : length part ≡ entry_size
-  length_part = ap length part_is ∙ length-take-le entry_size (drop (entry_size * i) bytes) (omega (arith, length-drop (entry_size * i) bytes))
-
-  pub length_cut : length (line 3 part) ≡ line_size 3
-  length_cut = omega (arith, length-line 3 part, length_part)
+  pub length_cut : length (line 3 (entry bytes i)) ≡ line_size 3
+  length_cut =
+      omega (arith, length-line 3 (entry bytes i), length-take-le entry_size (drop (entry_size * i) bytes) (omega (arith, length-drop (entry_size * i) bytes)))
 
   pub next_cut : (room r : List ℕ) (at place : ℕ) → at + line_size 3 * (length bytes / entry_size) ≤ length room
       → r ≡ over room at (cut_lines i bytes)
       → place ≡ at + line_size 3 * i
-      → over r place (line 3 part) ≡ over room at (cut_lines (i + 1) bytes)
+      → over r place (line 3 (entry bytes i)) ≡ over room at (cut_lines (i + 1) bytes)
   next_cut room r at place k e f =
       let long : length (cut_lines i bytes) ≡ line_size 3 * i = length_cuts i bytes (omega arith) in
-      onto room at (cut_lines i bytes) (line 3 part) r place e (omega arith) (omega arith)
-      ∙ ap (over room at)
-      (ap (λ (p : List ℕ). cut_lines i bytes ++ line 3 p) part_is ∙ sym (cuts_more i bytes) ∙ ap (λ (m : ℕ). cut_lines m bytes) (sym (add-one i)))
+      onto room at (cut_lines i bytes) (line 3 (entry bytes i)) r place e (omega arith) (omega arith)
+      ∙ ap (over room at) (sym (cuts_more i bytes) ∙ ap (λ (m : ℕ). cut_lines m bytes) (sym (add-one i)))
+
+-- what the iterator over a record's entries gives in that turn
+pub next_entry : (bytes rest rest' x : List ℕ) (i size : ℕ) → size ≡ entry_size → rest ≡ drop (entry_size * i) bytes → i ≤ length bytes / entry_size
+    → rest ≡ x ++ rest' → length x ≡ size
+    → (i < length bytes / entry_size) × (x ≡ entry bytes i) × (rest' ≡ drop (entry_size * (i + 1)) bytes)
+next_entry bytes rest rest' x i size s r h e l =
+    let n : entry_size * i + entry_size ≡ entry_size * (i + 1) = omega arith in (
+      omega (arith, ap length r, length-drop (entry_size * i) bytes, ap length e, length-append x rest'),
+      sym (take_at x rest' entry_size (l ∙ s)) ∙ ap (take entry_size) (sym e ∙ r),
+      sym (drop_at x rest' entry_size (l ∙ s)) ∙ ap (drop entry_size) (sym e ∙ r) ∙ drop-drop entry_size (entry_size * i) bytes ∙ ap (λ (m : ℕ). drop m bytes) n,
+    )
 
 -- and of the loop that writes labels
 pub next_label : (room r : List ℕ) (at place bone : ℕ) (h : Heap) → at + line_size 4 * bone ≤ length room

@@ -1,6 +1,6 @@
 -- Links behind the head, one after the other: none yet, one link more, and the length that stays; and the input text that they make.
 -- Assumes nothing.
-use Prim.Native.Nat.{ℕ, zero, suc, ◌+◌, ◌*◌, ◌/◌, ◌≤◌, ◌<◌}
+use Prim.Native.Nat.{ℕ, ◌+◌, ◌*◌, ◌/◌, ◌≤◌, ◌<◌}
 use mathlib.Core.Path.{◌≡◌, refl, sym, ◌∙◌, ap}
 use mathlib.Core.List.{List, ◌++◌, append_assoc}
 use native.Mathlib.Numerals.{add-one}
@@ -30,25 +30,18 @@ module _ (room : List ℕ) (links : List Link) where
   first_long : (i : ℕ) → i ≤ length links → length (link_lines (take i links)) ≡ line_size 2 * i
   first_long i h = length_links (take i links) ∙ ap (λ (m : ℕ). line_size 2 * m) (length-take-le i links h)
 
-  module _ (count : ℕ) (few : count ≤ length links) (fits : 0 < count → line_size 1 + line_size 2 * count ≤ length room) where
-    pub linked_more : (i : ℕ) → i < count
+  pub linked_all : linked room links (length links) ≡ over room (line_size 1) (link_lines links)
+  linked_all = ap (λ (xs : List Link). over room (line_size 1) (link_lines xs)) (take-length links)
+
+  module _ (fits : line_size 1 + line_size 2 * length links ≤ length room) where
+    pub linked_more : (i : ℕ) → i < length links
         → over (linked room links i) (line_size 1 + line_size 2 * i) (link_line (get_or links i no_link)) ≡ linked room links (i + 1)
     linked_more i h =
-        let f = fits (omega arith) in
         let long = first_long i (omega arith) in
         onto room (line_size 1) (link_lines (take i links)) (link_line (get_or links i no_link)) _ (line_size 1 + line_size 2 * i) refl (omega arith) (omega arith)
         ∙ ap (over room (line_size 1))
         (sym (links_more (take i links) (get_or links i no_link))
         ∙ ap link_lines (sym (take-suc links i no_link (omega arith)) ∙ ap (λ (m : ℕ). take m links) (sym (add-one i))))
-
-    pub linked_long : (i : ℕ) → i ≤ count → length (linked room links i) ≡ length room
-    linked_long zero h = ap length (sym linked_none)
-    linked_long (suc i) h =
-        let f = fits (omega arith) in
-        length_over room (line_size 1) (link_lines (take (suc i) links)) (omega (arith, first_long (suc i) (omega arith)))
-
-    pub linked_room : (i : ℕ) → i < count → line_size 1 + line_size 2 * i + line_size 2 ≤ length (linked room links i)
-    linked_room i h = let f = fits (omega arith) in omega (arith, linked_long i (omega arith))
 
 -- the length of an input text
 pub length_input : (n k : ℕ) (links : List Link) (bytes : List ℕ) → length (input_text n k links bytes) ≡ input_size (length links) (length bytes / entry_size)
@@ -65,7 +58,7 @@ length_input n k links bytes =
 
 -- the frames around the links, and the links between them, are the input text
 module _ (n k : ℕ) (links : List Link) (bytes room : List ℕ) (fits : input_size (length links) (length bytes / entry_size) ≤ length room) where
-  pub between : linked (around n k (length links) bytes room) links (length links) ≡ over room 0 (input_text n k links bytes)
+  pub between : over (around n k (length links) bytes room) (line_size 1) (link_lines links) ≡ over room 0 (input_text n k links bytes)
   unfolding around input_text
   between =
       let m = length bytes / entry_size in
@@ -81,8 +74,7 @@ module _ (n k : ℕ) (links : List Link) (bytes room : List ℕ) (fits : input_s
       let l₅ = length-append cuts close in
       let first : List ℕ = over room 0 head in
       let l₆ : length first ≡ length room = length_over room 0 head (omega arith) in
-      ap (λ (xs : List Link). over (over first (line_size 1 + line_size 2 * count) (cuts ++ close)) (line_size 1) (link_lines xs)) (take-length links)
-      ∙ before first (line_size 1 + line_size 2 * count) (line_size 1) lines (cuts ++ close) (omega arith) (omega arith)
+      before first (line_size 1 + line_size 2 * count) (line_size 1) lines (cuts ++ close) (omega arith) (omega arith)
       ∙ onto room 0 head (lines ++ (cuts ++ close)) first (line_size 1) refl (omega arith) (omega arith)
       ∙ ap (over room 0) (regroup head lines cuts close)
     where

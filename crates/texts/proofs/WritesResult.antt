@@ -1,78 +1,60 @@
 -- The result writer above checking: the names that it leaves, and the rows that it tried.
 -- Assumes nothing.
-use Prim.Native.Nat.{ℕ}
-use mathlib.Core.Path.{◌≡◌, refl, sym, ◌∙◌, ap, subst}
-use mathlib.Core.Bool.{Bool, true}
-use mathlib.Core.List.{List, [], ◌∷◌}
-use native.Mathlib.Omega.{arith}
-use lib.Dec.{ltb}
-use lib.ListN.{length, get_or}
+use Rattle.std.proofs.Common.{◌≡◌, ℕ, true, List, ◌++◌, length, get_or, Err, sym, ap, ◌∙◌, arith, le-ltb}
 use Rattle.meaning.specs.declared.Link.{Link}
-use Rattle.meaning.specs.declared.Judged.{Judged}
-use Rattle.meaning.specs.declared.Judged.TheVariants.{Accepted, Refused}
-use Rattle.meaning.specs.Judge.{refuse, first}
+use Rattle.meaning.specs.declared.Refusal.{Refusal}
+use Rattle.meaning.specs.Judge.{Judged, Accepted, refuse, first}
+use Rattle.meaning.proofs.Judge.{first_last}
+use Rattle.meaning.specs.Room.{over, settled}
 use Rattle.meaning.proofs.Room.{settled_new, over_front}
 use Rattle.meaning.specs.Tally.{pair_tally}
 use Rattle.links.specs.Links.{table_rows}
-use Rattle.links.proofs.LinksRows.{table_counted, accepted_left, accepted_right}
-use Rattle.links.specs.Records.{first_of}
+use Rattle.links.proofs.LinksRows.{table_counted, accepted_left, accepted_right, first_accepted, first-refused}
 use Rattle.weighing.specs.Side.{heap_of}
 use Rattle.cutting.specs.Names.{names}
 use Rattle.cutting.proofs.Names.{names_at}
 use Rattle.cutting.specs.RecordRows.{record_rows}
-use Rattle.cutting.specs.declared.Answer.{Answer}
 use Rattle.cutting.specs.Rows.{label_row, checking_rows}
-use Rattle.cutting.specs.Runs.{names_left, answered}
-use Rattle.cutting.specs.Calls.{Checking}
-use Rattle.cutting.proofs.Answers.{label_fits}
-use Rattle.cutting.proofs.Carried.{checking_core, checking_stop}
+use Rattle.cutting.specs.Runs.{names_left}
 use Rattle.cutting.proofs.Continuing.{record_sound}
-use Rattle.texts.specs.declared.Written.{Written}
-use Rattle.texts.specs.Writing.{Writes}
+use Rattle.texts.specs.Writing.{text_row}
 use Rattle.texts.specs.Writers.{result_text, result_rows}
-use Rattle.texts.specs.ResultSteps.{Named, judged_of}
-use Rattle.texts.proofs.ResultRows.{result_rows_lem}
-
--- what was answered says what the rows came to
-judged_so : (j : Judged) (count : ℕ) (done : Bool) (r : Answer) → r ≡ answered j count done → judged_of r ≡ j
-unfolding answered judged_of
-judged_so Accepted count done r e = ap judged_of e
-judged_so (Refused number place) count done r e = ap judged_of e
+use Rattle.texts.specs.ResultSteps.{Named}
+use Rattle.texts.proofs.Rows.{first_without}
 
 module _ (n k : ℕ) (links : List Link) (bytes labels : List ℕ) (long : length labels ≡ 128) where
-  abbrev rows : List Judged
-  rows = checking_rows n k true links bytes (length labels)
+  abbrev judged : Judged
+  judged = first (checking_rows n k true links bytes (length labels))
 
-  -- rows 1 to 13: there is a label for every bone, so that row 7 never refuses
-  rows_are : (j : Judged) → first (table_rows n k true links) ≡ j → first rows ≡ first_of j (first (record_rows n (pair_tally links) k bytes))
-  unfolding first_of
-  rows_are Accepted e =
-      sym (checking_core n k true links bytes (length labels) (pair_tally links) (λ i j hi hj. refl) e)
-      ∙ label_fits n (length labels) _ (omega (arith, (table_counted n k true links e).few_bones, long))
-  rows_are (Refused number place) e = checking_stop n k true links bytes (length labels) number place e
+  -- there is a label for every bone, so that row 7 never refuses
+  rows_are : judged ≡ first (table_rows n k true links ++ record_rows n (pair_tally links) k bytes)
+  unfolding checking_rows label_row refuse
+  rows_are =
+      first_without (table_rows n k true links) (label_row n (length labels)) (record_rows n (pair_tally links) k bytes)
+      (λ e. rw (le-ltb (length labels) n (omega (arith, long, (table_counted n k true links e).few_bones))))
 
-  module _ (labels' : List ℕ) (r : Answer) (checked : Checking n k true links bytes labels labels' r) where
-    judged : judged_of r ≡ first rows
-    judged = judged_so (first rows) _ _ r checked.answer
+  -- where checking refuses, so does the result writer; otherwise row 20 is left
+  pub result_refused : (room : ℕ) (refusal : Refusal) → judged ≡ Err refusal → first (result_rows n k links bytes room) ≡ Err refusal
+  unfolding result_rows
+  result_refused room refusal e =
+      first-refused (table_rows n k true links ++ record_rows n (pair_tally links) k bytes) _ refusal (sym rows_are ∙ e)
 
-    pub checked_named : judged_of r ≡ Accepted → Named n k bytes labels'
-    unfolding checking_rows heap_of
-    checked_named e =
-        let accepted = sym judged ∙ e in
-        let counted = table_counted n k true links (accepted_left (table_rows n k true links) _ accepted) in
-        let sound = record_sound n (pair_tally links) k bytes (accepted_right (label_row n (length labels) ∷ []) (record_rows n (pair_tally links) k bytes) (accepted_right (table_rows n k true links) _ accepted)) in
+  module _ (accepted : judged ≡ Accepted) where
+    pub result_left : (room : ℕ) → first (result_rows n k links bytes room) ≡ text_row (result_text n k bytes) room
+    unfolding result_rows
+    result_left room =
+        first_accepted (table_rows n k true links ++ record_rows n (pair_tally links) k bytes) _ (sym rows_are ∙ accepted) ∙ first_last _
+
+    pub result_named : (labels' : List ℕ) → labels' ≡ settled judged labels (over labels 0 (names n (names_left n bytes))) → Named n k bytes labels'
+    unfolding heap_of
+    result_named labels' e =
+        let rows = sym rows_are ∙ accepted in
+        let counted = table_counted n k true links (accepted_left (table_rows n k true links) _ rows) in
+        let sound = record_sound n (pair_tally links) k bytes (accepted_right (table_rows n k true links) _ rows) in
         record {
           bones = counted.few_bones;
           threshold = omega (arith, counted.low_threshold);
           cuts = omega (arith, sound.few, counted.few_bones);
-          names_of = λ b l. ap (λ (x : List ℕ). get_or x b 0) (checked.names_after ∙ settled_new labels _ accepted ∙ over_front labels (names n (names_left n bytes)))
+          names_of = λ b l. ap (λ (x : List ℕ). get_or x b 0) (e ∙ settled_new labels _ accepted ∙ over_front labels (names n (names_left n bytes)))
               ∙ names_at n (names_left n bytes) _ b l;
         }
-
-    pub checked_result : (room room' : List ℕ) (w : Written) → Writes (first_of (judged_of r) (refuse (ltb (length room) (length (result_text n k bytes))) 20 0)) (result_text n k bytes) room room' w
-        → Writes (first (result_rows n k links bytes (length room))) (result_text n k bytes) room room' w
-    checked_result room room' w x =
-        let last = refuse (ltb (length room) (length (result_text n k bytes))) 20 0 in
-        subst (λ (i : Judged). Writes i (result_text n k bytes) room room' w)
-        (ap (λ (i : Judged). first_of i last) (judged ∙ rows_are (first (table_rows n k true links)) refl) ∙ sym (result_rows_lem n k links bytes (length room)))
-        x

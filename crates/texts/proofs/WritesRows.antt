@@ -1,67 +1,28 @@
--- The input writer's rows: two lists of them, rows 9 and 20 by what the code finds, and what was judged before.
+-- The input writer's rows 9 and 20, and the frames around the links.
 -- Assumes nothing.
-use Prim.Native.Nat.{ℕ, ◌+◌, ◌*◌, ◌-◌, ◌/◌, ◌%◌, ◌≤◌, ◌<◌}
-use mathlib.Core.Path.{◌≡◌, refl, ◌∙◌, ap, ap₂}
-use mathlib.Core.Bool.{Bool, true, false, not, ◌||◌}
-use mathlib.Core.List.{List, [], ◌∷◌, ◌++◌}
+use Prim.Native.Nat.{ℕ, ◌+◌, ◌*◌, ◌-◌, ◌/◌, ◌%◌, ◌≤◌}
+use mathlib.Core.Path.{◌≡◌, ◌∙◌, ap, ap₂}
+use mathlib.Core.Bool.{not, ◌||◌}
+use mathlib.Core.List.{List, [], ◌++◌}
 use native.Mathlib.Omega.{arith}
-use borrow.Author.Tests.{ne_eqb, eq-eqb, lt-ltb, le-ltb}
-use lib.Dec.{T, eqb, ltb, eqb→eq, nltb→le}
+use lib.Dec.{eqb, ltb, eqb→eq, nltb→le}
 use lib.ListN.{length}
-use Rattle.meaning.specs.declared.Judged.{Judged}
-use Rattle.meaning.specs.declared.Judged.TheVariants.{Accepted, Refused}
-use Rattle.meaning.specs.Judge.{refuse, first}
+use Rattle.std.proofs.Common.{Ok, Err, sym}
+use Rattle.meaning.specs.declared.Refusal.{Refusal}
+use Rattle.meaning.specs.declared.Row.TheVariants.{Record, TextSpace}
+use Rattle.meaning.specs.Judge.{Judged, Accepted, first}
 use Rattle.meaning.proofs.Tests.{taut, so, ◌⊃◌}
-use Rattle.links.specs.Records.{first_of}
 use Rattle.cutting.specs.Record.{entry_size}
 use Rattle.cutting.specs.RecordRows.{record_row}
-use Rattle.meaning.specs.Room.{over, settled}
+use Rattle.meaning.specs.Room.{over}
 use Rattle.frames.specs.Placing.{Puts}
-use Rattle.meaning.proofs.Room.{onto, length_over}
+use Rattle.meaning.proofs.Room.{onto, length_over, settled_new, settled_was}
 use Rattle.frames.proofs.Places.{puts_fit}
 use Rattle.frames.specs.Frame.{line_size}
-use Rattle.texts.specs.declared.Written.{Written}
-use Rattle.texts.specs.declared.Written.TheVariants.{Wrote, Refused as the-written-Refused}
 use Rattle.texts.specs.Kinds.{head_line, cut_lines, close_line}
-use Rattle.texts.specs.Writing.{wrote}
 use Rattle.texts.proofs.WritesLines.{length_head, length_cuts, length_close}
-use Rattle.texts.specs.Steps.{input_size, later_rows, around, Surrounds, links_left}
-
--- the first refusal of two lists of rows
-pub first_both : (js ks : List Judged) → first (js ++ ks) ≡ first_of (first js) (first ks)
-unfolding first first_of
-first_both [] ks = refl
-first_both (Accepted ∷ js) ks = first_both js ks
-first_both (Refused number place ∷ js) ks = refl
-
-pub first_of-refused : {j : Judged} (k : Judged) {number place : ℕ} → j ≡ Refused number place → Refused number place ≡ first_of j k
-unfolding first_of
-first_of-refused k e = rw e
-
--- a row that accepts
-pub row_accepted : (b : Bool) (number place : ℕ) (js : List Judged) → first (refuse b number place ∷ js) ≡ Accepted → T (not b) × (first js ≡ Accepted)
-unfolding refuse first
-row_accepted true number place js e = let z : ◌≡◌ {A = ℕ} 0 1 = cc in absurd (omega arith)
-row_accepted false number place js e = (tt, e)
-
-module _ (n count : ℕ) (bytes : List ℕ) (room : ℕ) where
-  pub later_uneven : (length bytes % entry_size ≡ 0 → ⊥) → Refused 9 0 ≡ first (later_rows n count bytes room)
-  unfolding later_rows record_row refuse first
-  later_uneven f = simp (ne_eqb _ _ f)
-
-  pub later_many : length bytes % entry_size ≡ 0 → n - 1 < length bytes / entry_size → Refused 9 0 ≡ first (later_rows n count bytes room)
-  unfolding later_rows record_row refuse first
-  later_many e h = simp (eq-eqb _ _ e, lt-ltb _ _ h)
-
-  pub later_short : length bytes % entry_size ≡ 0 → length bytes / entry_size ≤ n - 1 → room < input_size count (length bytes / entry_size)
-      → Refused 20 0 ≡ first (later_rows n count bytes room)
-  unfolding later_rows record_row refuse first
-  later_short e h k = simp (eq-eqb _ _ e, le-ltb _ _ h, lt-ltb _ _ k)
-
-  pub later_fine : length bytes % entry_size ≡ 0 → length bytes / entry_size ≤ n - 1 → input_size count (length bytes / entry_size) ≤ room
-      → Accepted ≡ first (later_rows n count bytes room)
-  unfolding later_rows record_row refuse first
-  later_fine e h k = simp (eq-eqb _ _ e, le-ltb _ _ h, le-ltb _ _ k)
+use Rattle.texts.specs.Steps.{input_size, later_rows, around, Surrounds}
+use Rattle.texts.proofs.Rows.{row_accepted, answered_accepted, answered_refused}
 
 -- where rows 9 and 20 accept
 pub record Later (n count : ℕ) (bytes : List ℕ) (room : ℕ) : Type 0 where
@@ -72,8 +33,8 @@ pub record Later (n count : ℕ) (bytes : List ℕ) (room : ℕ) : Type 0 where
 pub later_accepted : (n count : ℕ) (bytes : List ℕ) (room : ℕ) → first (later_rows n count bytes room) ≡ Accepted → Later n count bytes room
 unfolding later_rows record_row
 later_accepted n count bytes room e =
-    let nine = row_accepted _ 9 0 _ e in
-    let twenty = row_accepted _ 20 0 [] nine.1 in
+    let nine = row_accepted _ Record 0 _ e in
+    let twenty = row_accepted _ TextSpace 0 [] nine.1 in
     record {
       entire =
           eqb→eq (length bytes % entry_size) 0
@@ -85,24 +46,13 @@ later_accepted n count bytes room e =
     }
 
 -- what is begun, by whether it was refused
-module _ (n k count : ℕ) (bytes room : List ℕ) where
-  pub surrounds_refused : (j : Judged) {number place : ℕ} → j ≡ Refused number place → Surrounds j n k count bytes room room (the-written-Refused number place)
-  unfolding wrote settled
-  surrounds_refused j e = rw e (record { answer = refl; text_left = refl })
+module _ (n k count : ℕ) (bytes room : List ℕ) {j : Judged} where
+  pub surrounds_refused : {refusal : Refusal} → j ≡ Err refusal → Surrounds j n k count bytes room room (Err refusal)
+  surrounds_refused e = record { answer = sym (answered_refused _ e); text_left = sym (settled_was room _ e) }
 
-  pub surrounds_whole : (j : Judged) (room' : List ℕ) (r : ℕ) → j ≡ Accepted → r ≡ input_size count (length bytes / entry_size) → room' ≡ around n k count bytes room
-      → Surrounds j n k count bytes room room' (Wrote r)
-  unfolding wrote settled
-  surrounds_whole j room' r e f g = rw e (record { answer = ap Wrote f; text_left = g })
-
--- how many links are left to write
-pub left_all : {r : Written} {written : ℕ} (count : ℕ) → r ≡ Wrote written → count ≡ links_left r count
-unfolding links_left
-left_all count e = rw e
-
-pub left_none : {r : Written} {number place : ℕ} (count : ℕ) → r ≡ the-written-Refused number place → 0 ≡ links_left r count
-unfolding links_left
-left_none count e = rw e
+  pub surrounds_whole : (room' : List ℕ) (r : ℕ) → j ≡ Accepted → r ≡ input_size count (length bytes / entry_size) → room' ≡ around n k count bytes room
+      → Surrounds j n k count bytes room room' (Ok r)
+  surrounds_whole room' r e f g = record { answer = ap Ok f ∙ sym (answered_accepted _ e); text_left = g ∙ sym (settled_new room _ e) }
 
 -- the frames around the links from their parts
 module _ (n k count : ℕ) (bytes room : List ℕ) (fits : input_size count (length bytes / entry_size) ≤ length room) where
@@ -140,9 +90,3 @@ module _ (n k count : ℕ) (bytes room : List ℕ) (fits : input_size count (len
       ∙ ap (λ (x : ℕ). over s p (close_line x)) f-is
       ∙ onto r (o + line_size 2 * count) (cut_lines m bytes) (close_line (1 + count + m)) s p cuts.1 (omega (arith, cuts.0)) (omega (arith, head.0, head.2))
       ∙ ap₂ (λ (a : List ℕ) (b : ℕ). over a (b + line_size 2 * count) (cut_lines m bytes ++ close_line (1 + count + m))) head.1 head.0
-
--- what was begun after rows 1 to 6 passed
-pub surrounds_after : (i j : Judged) (n k count : ℕ) (bytes room room' : List ℕ) (r : Written) → i ≡ Accepted → Surrounds j n k count bytes room room' r
-    → Surrounds (first_of i j) n k count bytes room room' r
-unfolding first_of
-surrounds_after i j n k count bytes room room' r e b = rw e b

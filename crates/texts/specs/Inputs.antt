@@ -1,12 +1,11 @@
 -- What the input writer writes, and what it tries.
-use Rattle.std.specs.Prelude.{ℕ, ◌+◌, ◌/◌, ◌<◌, true, List, [], ◌∷◌, ◌++◌, length}
+use Rattle.std.specs.Prelude.{ℕ, ◌+◌, ◌/◌, ◌<◌, true, List, [], ◌∷◌, ◌++◌, Result, length}
 use Rattle.meaning.specs.declared.Link.{Link}
-use Rattle.meaning.specs.declared.Judged.{Judged}
-use Rattle.meaning.specs.Judge.{first}
+use Rattle.meaning.specs.declared.Refusal.{Refusal}
+use Rattle.meaning.specs.Judge.{Judged, first}
 use Rattle.links.specs.Links.{table_rows}
 use Rattle.cutting.specs.Record.{entry_size}
 use Rattle.cutting.specs.RecordRows.{record_row}
-use Rattle.texts.specs.declared.Written.{Written}
 use Rattle.texts.specs.Kinds.{head_line, link_lines, cut_lines, close_line}
 use Rattle.texts.specs.Writing.{text_row, Writes}
 
@@ -31,5 +30,5 @@ input_rows n k links bytes room =
     table_rows n k true links ++ record_row n (length bytes) ∷ text_row (input_text n k links bytes) room ∷ []
 
 -- what the writer promises
-abbrev pub WritingInput : ℕ → ℕ → List Link → List ℕ → List ℕ → List ℕ → Written → Type 0
+abbrev pub WritingInput : ℕ → ℕ → List Link → List ℕ → List ℕ → List ℕ → Result ℕ Refusal → Type 0
 WritingInput n k links bytes room room' r = Writes (first (input_rows n k links bytes (length room))) (input_text n k links bytes) room room' r

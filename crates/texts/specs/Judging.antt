@@ -1,11 +1,9 @@
 -- What the parts of the judging pass promise each other: a line that passed, and what is left to read from there on.
-use Rattle.std.specs.Prelude.{ℕ, ◌+◌, ◌*◌, ◌/◌, ◌≤◌, ◌<◌, ◌≡◌, Bool, true, ◌&&◌, List, [], ◌∷◌, T, length, take, drop}
-use Rattle.meaning.specs.declared.Judged.{Judged}
-use Rattle.meaning.specs.declared.Judged.TheVariants.{Accepted, Refused}
-use Rattle.meaning.specs.Judge.{first}
+use Rattle.std.specs.Prelude.{ℕ, ◌+◌, ◌*◌, ◌/◌, ◌≤◌, ◌<◌, ◌≡◌, Bool, true, ◌&&◌, List, [], ◌∷◌, T, length, take, drop, Result, Err, MatchResult}
+use Rattle.meaning.specs.declared.Refusal.{Refusal}
+use Rattle.meaning.specs.Judge.{answered, first}
 use Rattle.cutting.specs.Record.{entry_size}
 use Rattle.texts.specs.declared.Reading.{Reading}
-use Rattle.texts.specs.declared.Reading.TheVariants.{Got, Refused as Refused·reading}
 use Rattle.texts.specs.declared.frame.Frame.{Frame}
 use Rattle.frames.specs.declared.stage.Stage.{Stage}
 use Rattle.frames.specs.declared.stage.Stage.TheVariants.{Opening, Linking, Cutting, Closed}
@@ -14,7 +12,7 @@ use Rattle.frames.specs.Frame.{byte_sum, bytes_of, well_formed}
 use Rattle.frames.specs.Stages.{follows}
 use Rattle.texts.specs.Lines.{Line, lines_of, line_rows}
 use Rattle.texts.specs.Reader.{links_in, entries_in, bones_in, threshold_in}
-use Rattle.texts.specs.Walk.{byte_at, size_at, Well, FrameFound}
+use Rattle.texts.specs.Walk.{byte_at, size_at, Well, FrameAt}
 
 -- rows 16 to 19 pass the frame at the front
 pub record Passes (cs : List ℕ) (stage : Stage) (line : ℕ) : Type 0 where
@@ -23,10 +21,14 @@ pub record Passes (cs : List ℕ) (stage : Stage) (line : ℕ) : Type 0 where
   pub order : T (follows stage (byte_at cs 0))
   pub count : byte_at cs 0 ≡ 6 → byte_at cs 1 * 256 + byte_at cs 2 ≡ line
 
--- the first of the rows 16 to 19 that refuses the line at the front, or nought
-pub record LineJudged (cs : List ℕ) (stage : Stage) (line number : ℕ) : Type 0 where
-  pub refused : 0 < number → first (line_rows stage line (lines_of cs)) ≡ Refused number line
-  pub passed : number ≡ 0 → Passes cs stage line
+-- the frame of the line at the front, which passed
+pub record LinePassed (cs : List ℕ) (stage : Stage) (line : ℕ) (f : Frame) : Type 0 where
+  pub frame : FrameAt cs f
+  pub passes : Passes cs stage line
+
+-- that, or the first of the rows 16 to 19 that refuses it
+abbrev pub LineJudged : List ℕ → Stage → ℕ → Result Frame Refusal → Type 0
+LineJudged cs stage line r = MatchResult r (LinePassed cs stage line) (λ refusal. first (line_rows stage line (lines_of cs)) ≡ Err refusal)
 
 -- a number of the head: still to be read, or read before
 unfoldable pub head_from : Stage → ℕ → ℕ → ℕ
@@ -35,15 +37,16 @@ head_from Linking coming had = had
 head_from Cutting coming had = had
 head_from Closed coming had = had
 
-unfoldable pub reading_of : Judged → ℕ → ℕ → ℕ → ℕ → Reading
-reading_of Accepted n k links cuts = Got n k links cuts
-reading_of (Refused number place) n k links cuts = Refused·reading number place
-
 -- what is read in all, where so much was read before these lines
-unfoldable pub read_from : Progress → List Line → Reading
+unfoldable pub read_from : Progress → List Line → Result Reading Refusal
 read_from s ls =
-    reading_of (first (line_rows s.stage s.line ls)) (head_from s.stage (bones_in ls) s.n) (head_from s.stage (threshold_in ls) s.k)
-    (s.links + length (links_in ls)) (s.cuts + length (entries_in ls) / entry_size)
+    answered (first (line_rows s.stage s.line ls))
+    (record {
+      n = head_from s.stage (bones_in ls) s.n;
+      k = head_from s.stage (threshold_in ls) s.k;
+      links = s.links + length (links_in ls);
+      cuts = s.cuts + length (entries_in ls) / entry_size;
+    })
 
 -- so far at most as many links and cuts as lines, and at most as many lines as characters
 pub record Bounded (text : List ℕ) (s : Progress) : Type 0 where
@@ -55,9 +58,7 @@ pub record Bounded (text : List ℕ) (s : Progress) : Type 0 where
 
 pub record Ready (text : List ℕ) (s : Progress) (f : Frame) : Type 0 where
   pub small : Bounded text s
-  pub some : 0 < f.size
-  pub found : FrameFound (drop s.at text) f
-  pub passes : Passes (drop s.at text) s.stage s.line
+  pub line : LinePassed (drop s.at text) s.stage s.line f
 
 pub record Advanced (text : List ℕ) (s s' : Progress) : Type 0 where
   pub small : Bounded text s'

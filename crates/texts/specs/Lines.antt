@@ -1,7 +1,7 @@
 -- A text as lines, and the rows 16 to 19 that are tried on each line in turn.
 use Rattle.std.specs.Prelude.{ℕ, suc, ◌+◌, ◌*◌, Bool, true, false, cond, not, ◌&&◌, List, [], ◌∷◌, eqb, get_or}
-use Rattle.meaning.specs.declared.Judged.{Judged}
-use Rattle.meaning.specs.Judge.{refuse}
+use Rattle.meaning.specs.declared.Row.TheVariants.{Line as LineRow, Sum, Order, Close}
+use Rattle.meaning.specs.Judge.{Judged, refuse}
 use Rattle.frames.specs.declared.stage.Stage.{Stage}
 use Rattle.frames.specs.Stages.{follows, after, open_at}
 use Rattle.frames.specs.Frame.{byte_sum, bytes_of, well_formed}
@@ -33,10 +33,10 @@ pair l i = get_or (frame l) i 0 * 256 + get_or (frame l) (suc i) 0
 
 -- 16 to 19 on each line in turn, from line i on; a missing close is refused at the line after the last
 unfoldable pub line_rows : Stage → ℕ → List Line → List Judged
-line_rows stage i [] = refuse (open_at stage) 18 i ∷ []
+line_rows stage i [] = refuse (open_at stage) Order i ∷ []
 line_rows stage i (l ∷ ls) =
-    refuse (not (l.ended && well_formed l.characters)) 16 i
-    ∷ refuse (not (eqb (byte_sum (frame l)) 0)) 17 i
-    ∷ refuse (not (follows stage (kind l))) 18 i
-    ∷ refuse (eqb (kind l) 6 && not (eqb (pair l 1) i)) 19 i
+    refuse (not (l.ended && well_formed l.characters)) LineRow i
+    ∷ refuse (not (eqb (byte_sum (frame l)) 0)) Sum i
+    ∷ refuse (not (follows stage (kind l))) Order i
+    ∷ refuse (eqb (kind l) 6 && not (eqb (pair l 1) i)) Close i
     ∷ line_rows (after stage (kind l)) (suc i) ls

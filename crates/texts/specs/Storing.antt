@@ -1,11 +1,9 @@
 -- What the parts of the storing pass promise each other, over a text whose lines are all well formed frames.
-use Rattle.std.specs.Prelude.{ℕ, zero, suc, ◌+◌, ◌*◌, ◌≤◌, ◌<◌, ◌≡◌, cond, List, [], ◌∷◌, ◌++◌, T, eqb, length, drop}
+use Rattle.std.specs.Prelude.{ℕ, zero, suc, ◌+◌, ◌*◌, ◌≤◌, ◌<◌, ◌≡◌, cond, List, [], ◌∷◌, ◌++◌, T, Option, MatchOption, eqb, length, drop}
 use Rattle.meaning.specs.declared.Link.{Link}
-use Rattle.texts.specs.declared.Reading.{Reading}
-use Rattle.texts.specs.declared.Reading.TheVariants.{Got, Refused}
 use Rattle.texts.specs.Lines.{Line, lines_of, kind}
-use Rattle.texts.specs.Reader.{links_in}
-use Rattle.texts.specs.Walk.{byte_at}
+use Rattle.texts.specs.declared.store.Found.{Found}
+use Rattle.texts.specs.Walk.{byte_at, size_at, Well}
 use Rattle.texts.specs.Judging.{all_well}
 
 -- the lines from the first one of that kind on
@@ -13,11 +11,19 @@ unfoldable pub skip_to : ℕ → List Line → List Line
 skip_to k [] = []
 skip_to k (l ∷ ls) = cond (eqb (kind l) k) (l ∷ ls) (skip_to k ls)
 
--- the place of the next frame of that kind, or the end
-pub record Skipped (text : List ℕ) (at k r : ℕ) : Type 0 where
-  pub within : r ≤ length text
-  pub lines : lines_of (drop r text) ≡ skip_to k (lines_of (drop at text))
-  pub well : T (all_well (lines_of (drop r text)))
+-- a frame of that kind, the first from a place on, with well formed lines behind it
+pub record FoundAt (text : List ℕ) (from k : ℕ) (f : Found) : Type 0 where
+  pub lines : lines_of (drop f.at text) ≡ skip_to k (lines_of (drop from text))
+  pub frame : Well (drop f.at text)
+  pub kind : byte_at (drop f.at text) 0 ≡ k
+  pub next : f.next ≡ f.at + 2 * size_at (drop f.at text) + 1
+  pub further : from < f.next
+  pub within : f.next ≤ length text
+  pub well : T (all_well (lines_of (drop f.next text)))
+
+-- that, or no frame of that kind
+abbrev pub Finds : List ℕ → ℕ → ℕ → Option Found → Type 0
+Finds text from k r = MatchOption r (skip_to k (lines_of (drop from text)) ≡ []) (FoundAt text from k)
 
 -- the first bytes of the payload of the frame at the front, and the link that they mean
 unfoldable pub payload_at : List ℕ → ℕ → List ℕ
@@ -27,28 +33,13 @@ payload_at cs (suc i) = payload_at cs i ++ byte_at cs (suc i) ∷ []
 unfoldable pub link_here : List ℕ → Link
 link_here cs = record { a = byte_at cs 1; b = byte_at cs 2; tally = byte_at cs 3 * 256 + byte_at cs 4 }
 
--- there is a link from a place on
-pub record LinkAhead (text : List ℕ) (at : ℕ) : Type 0 where
-  pub within : at ≤ length text
-  pub well : T (all_well (lines_of (drop at text)))
-  pub some : 0 < length (links_in (lines_of (drop at text)))
+-- what the frames of one kind hold: no line holds nothing, no other frame does, and each of that kind a part
+pub record Holds {A : Type 0} (kind : ℕ) (held : List Line → List A) (part : List ℕ → List A) : Type 0 where
+  pub none : held [] ≡ []
+  pub skipped : (ls : List Line) → held (skip_to kind ls) ≡ held ls
+  pub front : (cs : List ℕ) → Well cs → byte_at cs 0 ≡ kind → held (lines_of cs) ≡ part cs ++ held (lines_of (drop (2 * size_at cs + 1) cs))
 
--- the place behind the next link
-pub record LinkPast (text : List ℕ) (at r : ℕ) : Type 0 where
-  pub within : r ≤ length text
-  pub well : T (all_well (lines_of (drop r text)))
-  pub links : links_in (lines_of (drop r text)) ≡ drop 1 (links_in (lines_of (drop at text)))
-
--- how many links and cuts are to be stored: those read, or none where the text is refused
-unfoldable pub links_read : Reading → ℕ
-links_read (Got n k links cuts) = links
-links_read (Refused number place) = 0
-
-unfoldable pub cuts_read : Reading → ℕ
-cuts_read (Got n k links cuts) = cuts
-cuts_read (Refused number place) = 0
-
--- so many items of a text can be stored in that room: none, or all that a text of well formed lines holds
-pub record Storable (text : List ℕ) (count held room : ℕ) : Type 0 where
-  pub fits : count ≤ room
-  pub whole : 0 < count → T (all_well (lines_of text)) × (held ≡ count)
+-- the lines of a text are well formed, and what they hold fits the room lent for it
+pub record Storable {A : Type 0} (text : List ℕ) (items room : List A) : Type 0 where
+  pub well : T (all_well (lines_of text))
+  pub fits : length items ≤ length room

@@ -1,6 +1,8 @@
 -- What the reader's parts promise each other: the frame at the front of what is left of a text.
-use Rattle.std.specs.Prelude.{ℕ, ◌+◌, ◌*◌, ◌≤◌, ◌<◌, ◌≡◌, List, Bool, ◌&&◌, T, ltb, length, get_or, take}
+use Rattle.std.specs.Prelude.{ℕ, ◌+◌, ◌*◌, ◌<◌, ◌≡◌, List, Bool, ◌&&◌, T, Option, MatchOption, SomeIff, ltb, length, get_or, take}
 use Rattle.texts.specs.declared.frame.Frame.{Frame}
+use Rattle.frames.specs.declared.kind.Kind.{Kind}
+use Rattle.frames.specs.Kinds.{number_of}
 use Rattle.frames.specs.Frame.{payloads, is_kind, byte_sum, value_of, is_hex, bytes_of}
 
 -- the byte that the i-th pair of characters means
@@ -22,25 +24,26 @@ pub record Well (cs : List ℕ) : Type 0 where
   pub room : 2 * size_at cs < length cs
   pub feed : get_or cs (2 * size_at cs) 0 ≡ 10
 
--- how many bytes the frame at the front has, where there is such a kind, room for its line, and a line feed at its end; else nought
-pub record SizeFound (cs : List ℕ) (r : ℕ) : Type 0 where
-  pub none : r ≡ 0 → Well cs → ⊥
-  pub kind : 0 < r → T (is_kind (byte_at cs 0))
-  pub size : 0 < r → r ≡ size_at cs
-  pub room : 2 * r ≤ length cs
-  pub closed : 0 < r → 2 * r < length cs
-  pub feed : 0 < r → get_or cs (2 * r) 0 ≡ 10
+-- the kind and the size of the frame at the front: there is such a kind, and a line feed behind so many bytes
+pub record LineAt (cs : List ℕ) (kind : Kind) (size : ℕ) : Type 0 where
+  pub kind_is : number_of kind ≡ byte_at cs 0
+  pub size_is : size ≡ size_at cs
+  pub room : 2 * size < length cs
+  pub feed : get_or cs (2 * size) 0 ≡ 10
 
--- the sum of the first bytes, 256 where they are not all written in digits
-pub record Summed (cs : List ℕ) (size r : ℕ) : Type 0 where
-  pub none : 256 ≤ r → T (is_hex (take (2 * size) cs)) → ⊥
-  pub digits : r < 256 → T (is_hex (take (2 * size) cs))
-  pub sum : r < 256 → r ≡ byte_sum (bytes_of (take (2 * size) cs))
+abbrev pub LineFound : List ℕ → Option (Kind × ℕ) → Type 0
+LineFound cs r = MatchOption r (Well cs → ⊥) (λ line. LineAt cs line.0 line.1)
+
+-- the sum of the first bytes, where they are all written in digits
+abbrev pub Summed : List ℕ → ℕ → Option ℕ → Type 0
+Summed cs size r = SomeIff r (T (is_hex (take (2 * size) cs))) (byte_sum (bytes_of (take (2 * size) cs)))
 
 -- the frame at the front, if there is one
-pub record FrameFound (cs : List ℕ) (f : Frame) : Type 0 where
-  pub none : f.size ≡ 0 → Well cs → ⊥
-  pub well : 0 < f.size → Well cs
-  pub size : 0 < f.size → f.size ≡ size_at cs
-  pub kind : 0 < f.size → f.kind ≡ byte_at cs 0
-  pub sum : 0 < f.size → f.sum ≡ byte_sum (bytes_of (take (2 * size_at cs) cs))
+pub record FrameAt (cs : List ℕ) (f : Frame) : Type 0 where
+  pub well : Well cs
+  pub size : f.size ≡ size_at cs
+  pub kind : number_of f.kind ≡ byte_at cs 0
+  pub sum : f.sum ≡ byte_sum (bytes_of (take (2 * size_at cs) cs))
+
+abbrev pub FrameFound : List ℕ → Option Frame → Type 0
+FrameFound cs r = MatchOption r (Well cs → ⊥) (FrameAt cs)

@@ -1,15 +1,14 @@
 -- What the result writer writes and tries, and which texts the input writer can write.
-use Rattle.std.specs.Prelude.{ℕ, ◌+◌, ◌/◌, Bool, true, not, ◌&&◌, List, [], ◌∷◌, ◌++◌, eqb, length}
+use Rattle.std.specs.Prelude.{ℕ, ◌+◌, ◌/◌, Bool, true, not, ◌&&◌, List, [], ◌∷◌, ◌++◌, eqb, length, Result}
 use Rattle.meaning.specs.declared.Link.{Link}
-use Rattle.meaning.specs.declared.Judged.{Judged}
-use Rattle.meaning.specs.Judge.{first}
+use Rattle.meaning.specs.declared.Refusal.{Refusal}
+use Rattle.meaning.specs.Judge.{Judged, first}
 use Rattle.meaning.specs.Tally.{pair_tally}
 use Rattle.links.specs.Links.{table_rows}
 use Rattle.cutting.specs.Record.{entry_size}
 use Rattle.cutting.specs.Runs.{names_left}
 use Rattle.cutting.specs.RecordRows.{record_rows}
 use Rattle.texts.specs.Lines.{Line, kind}
-use Rattle.texts.specs.declared.Written.{Written}
 use Rattle.texts.specs.Kinds.{head_line, cut_lines, label_lines, close_line}
 use Rattle.texts.specs.Writing.{text_row, Writes}
 
@@ -29,5 +28,5 @@ result_rows n k links bytes room =
     table_rows n k true links ++ record_rows n (pair_tally links) k bytes ++ text_row (result_text n k bytes) room ∷ []
 
 -- and what it promises
-abbrev pub WritingResult : ℕ → ℕ → List Link → List ℕ → List ℕ → List ℕ → Written → Type 0
+abbrev pub WritingResult : ℕ → ℕ → List Link → List ℕ → List ℕ → List ℕ → Result ℕ Refusal → Type 0
 WritingResult n k links bytes room room' r = Writes (first (result_rows n k links bytes (length room))) (result_text n k bytes) room room' r

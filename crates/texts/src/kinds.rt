@@ -1,6 +1,7 @@
 // The lines of each kind, written at a place of lent room: head, link, cuts, labels, close, and the frame of a refusal. Each gives the
 // place behind what it wrote. Where the room is too short for all of it, each writes nothing and gives the place.
-ghost use Rattle.std.specs.Prelude.{◌≡◌, ◌+◌, ◌*◌, ◌/◌, ◌%◌, ◌≤◌, ◌<◌, min, length};
+// Room and place are two parameters and the place is a number, not an `Option`, since `Puts` promises it so of any place.
+ghost use Rattle.std.specs.Prelude.{◌≡◌, ◌+◌, ◌*◌, ◌/◌, ◌≤◌, ◌<◌, min, length};
 ghost use Rattle.meaning.specs.Room.{over};
 ghost use Rattle.frames.specs.Frame.{line_size};
 ghost use Rattle.weighing.specs.Side.{heap_of};
@@ -10,35 +11,23 @@ ghost use Rattle.frames.specs.Placing.{Puts};
 
 use cutting::record::Record;
 use frames::frame::{CUT_LINE, LABEL_LINE};
+use frames::kind::Kind;
 use frames::write::put_line;
-
-// The two bytes of a number.
-fn high(m: u16) -> u8
-    ensures { result ≡ m / 256 }
-{
-    (m / 256) as u8
-}
-
-fn low(m: u16) -> u8
-    ensures { result ≡ m % 256 }
-{
-    (m % 256) as u8
-}
 
 // Frame 01: the bone count and the threshold.
 pub fn put_head(room: &mut [u8], at: usize, n: u8, k: u16) -> usize
     ensures { Puts room.old at (head_line n k) room.new result }
 {
-    let payload = [n, high(k), low(k)];
-    put_line(room, at, 1, &payload)
+    let [high, low] = k.to_be_bytes();
+    put_line(room, at, Kind::Head as u8, &[n, high, low])
 }
 
 // Frame 02: a link.
 pub fn put_link(room: &mut [u8], at: usize, a: u8, b: u8, tally: u16) -> usize
     ensures { Puts room.old at (link_line (record { a = a; b = b; tally = tally })) room.new result }
 {
-    let payload = [a, b, high(tally), low(tally)];
-    put_line(room, at, 2, &payload)
+    let [high, low] = tally.to_be_bytes();
+    put_line(room, at, Kind::Link as u8, &[a, b, high, low])
 }
 
 // Frames 03 of the whole entries of a record, in room that they fit in.
@@ -47,14 +36,9 @@ fn each_cut(room: &mut [u8], at: usize, bytes: &[u8]) -> usize
     ensures value { result ≡ at + line_size 3 * (length bytes.now / entry_size) }
     ensures room_after { room.new ≡ over room.old at (cut_lines (length bytes.now / entry_size) bytes.now) }
 {
-    let cuts = bytes.len() / Record::ENTRY;
     let mut next = at;
-    let mut i = 0;
-    while i < cuts {
-        let from = Record::ENTRY * i;
-        let to = from + Record::ENTRY;
-        next = put_line(room, next, 3, &bytes[from..to]);
-        i += 1;
+    for entry in bytes.chunks_exact(Record::ENTRY) {
+        next = put_line(room, next, Kind::Cut as u8, entry);
     }
     next
 }
@@ -63,10 +47,7 @@ fn each_cut(room: &mut [u8], at: usize, bytes: &[u8]) -> usize
 pub fn put_cuts(room: &mut [u8], at: usize, bytes: &[u8]) -> usize
     ensures { Puts room.old at (cut_lines (length bytes.now / entry_size) bytes.now) room.new result }
 {
-    if room.len() < at {
-        return at;
-    }
-    if (room.len() - at) / CUT_LINE < bytes.len() / Record::ENTRY {
+    if room.len() < at || (room.len() - at) / CUT_LINE < bytes.len() / Record::ENTRY {
         return at;
     }
     each_cut(room, at, bytes)
@@ -76,8 +57,7 @@ pub fn put_cuts(room: &mut [u8], at: usize, bytes: &[u8]) -> usize
 fn put_label(room: &mut [u8], at: usize, bone: u8, name: u8) -> usize
     ensures { Puts room.old at (label_line bone name) room.new result }
 {
-    let payload = [bone, name];
-    put_line(room, at, 4, &payload)
+    put_line(room, at, Kind::Label as u8, &[bone, name])
 }
 
 // Frames 04 of the bones 0 to n − 1, in room that they fit in.
@@ -86,30 +66,18 @@ fn each_label(room: &mut [u8], at: usize, n: usize, names: &[u8; 128]) -> usize
     ensures { (result ≡ at + line_size 4 * n) × (room.new ≡ over room.old at (label_lines n (heap_of names.now))) }
 {
     let mut next = at;
-    let mut bone = 0;
-    while bone < n {
-        next = put_label(room, next, bone as u8, names[bone]);
-        bone += 1;
+    for (bone, &name) in names[..n].iter().enumerate() {
+        next = put_label(room, next, bone as u8, name);
     }
     next
-}
-
-// A bone count, which is 128 where it is over 128.
-fn bones_of(n: usize) -> usize
-    ensures { result ≡ min n 128 }
-{
-    if n < 128 { n } else { 128 }
 }
 
 // Frames 04 of the bones 0 to n − 1. A bone count over 128 means 128.
 pub fn put_labels(room: &mut [u8], at: usize, n: usize, names: &[u8; 128]) -> usize
     ensures { Puts room.old at (label_lines (min n 128) (heap_of names.now)) room.new result }
 {
-    let bones = bones_of(n);
-    if room.len() < at {
-        return at;
-    }
-    if room.len() - at < LABEL_LINE * bones {
+    let bones = n.min(128);
+    if room.len() < at || room.len() - at < LABEL_LINE * bones {
         return at;
     }
     each_label(room, at, bones, names)
@@ -119,14 +87,14 @@ pub fn put_labels(room: &mut [u8], at: usize, n: usize, names: &[u8; 128]) -> us
 pub fn put_close(room: &mut [u8], at: usize, frames: u16) -> usize
     ensures { Puts room.old at (close_line frames) room.new result }
 {
-    let payload = [high(frames), low(frames)];
-    put_line(room, at, 6, &payload)
+    let [high, low] = frames.to_be_bytes();
+    put_line(room, at, Kind::Close as u8, &[high, low])
 }
 
 // Frame 07: a refusal's number and place.
 pub(crate) fn put_refusal(room: &mut [u8], at: usize, number: u8, place: u16) -> usize
     ensures { Puts room.old at (refusal_line number place) room.new result }
 {
-    let payload = [number, high(place), low(place)];
-    put_line(room, at, 7, &payload)
+    let [high, low] = place.to_be_bytes();
+    put_line(room, at, Kind::Refusal as u8, &[number, high, low])
 }

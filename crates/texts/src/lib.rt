@@ -12,27 +12,17 @@ pub mod refusal;
 pub mod result;
 mod store;
 
-// What the reader answers: a refusal of the table with its place, or the head's two numbers and how many links and cuts were read.
-#[derive(Clone, Copy)]
-pub enum Reading {
-    Refused {
-        number: u32,
-        place: u32,
-    },
-    Got {
-        n: u8,
-        k: u16,
-        links: u32,
-        cuts: u32,
-    },
+// What the reader finds in a text that it takes: the head's two numbers, and how many links and cuts there are.
+#[derive(Clone, Copy, Debug, PartialEq, Eq)]
+pub struct Reading {
+    pub n: u8,
+    pub k: u16,
+    pub links: u32,
+    pub cuts: u32,
 }
 
-// What a writer answers: a refusal of the table with its place, or the number of bytes written.
-#[derive(Clone, Copy)]
-pub enum Written {
-    Refused { number: u32, place: u32 },
-    Wrote { count: u32 },
-}
+// The lines around all others of a text: head and close.
+pub(crate) const AROUND: usize = HEAD_LINE + CLOSE_LINE;
 
 // The longest text that is printed: head, 127 cuts, 128 labels, close.
-pub const LONGEST: usize = HEAD_LINE + 127 * CUT_LINE + 128 * LABEL_LINE + CLOSE_LINE;
+pub const LONGEST: usize = AROUND + 127 * CUT_LINE + 128 * LABEL_LINE;

@@ -1,23 +1,20 @@
 // The frame of a refusal, alone: what the program prints when it is refused.
 ghost use Rattle.texts.specs.Writing.{Refuses};
 
-use super::Written;
-use super::kinds::put_refusal;
+use crate::kinds::put_refusal;
 use frames::frame::REFUSAL_LINE;
+use meaning::{Refusal, Row};
 
 // What is written, in bytes.
 const LENGTH: u32 = REFUSAL_LINE as u32;
 
 // Row 20, then the frame at the front of the text space.
-pub fn write_refusal(number: u8, place: u16, text: &mut [u8]) -> Written
+pub fn write_refusal(number: u8, place: u16, text: &mut [u8]) -> Result<u32, Refusal>
     ensures { Refuses number place text.old text.new result }
 {
     if text.len() < REFUSAL_LINE {
-        return Written::Refused {
-            number: 20,
-            place: 0,
-        };
+        return Err(Row::TextSpace.at(0));
     }
     put_refusal(text, 0, number, place);
-    Written::Wrote { count: LENGTH }
+    Ok(LENGTH)
 }

@@ -1,130 +1,116 @@
-// The storing pass over a text that was judged: its frames found again, and what links and cuts hold.
-ghost use Rattle.std.specs.Prelude.{◌≡◌, ◌+◌, ◌*◌, ◌<◌, ◌≤◌, T, length, get_or, take, drop};
+// The storing pass over a text that was judged: the frames of a kind are found again, and what they hold is put into lent room.
+ghost use Rattle.std.specs.Prelude.{◌≡◌, ℕ, ◌+◌, ◌≤◌, List, [], ◌∷◌, T, length, drop};
 ghost use Rattle.meaning.specs.Room.{over};
-ghost use Rattle.links.specs.Records.{no_link};
+ghost use Rattle.frames.specs.Kinds.{number_of};
 ghost use Rattle.cutting.specs.Record.{entry_size};
-ghost use Rattle.texts.specs.Lines.{lines_of};
+ghost use Rattle.texts.specs.Lines.{Line, lines_of};
 ghost use Rattle.texts.specs.Reader.{links_in, entries_in};
-ghost use Rattle.texts.specs.Walk.{byte_at, size_at, Well};
+ghost use Rattle.texts.specs.Walk.{byte_at, Well};
 ghost use Rattle.texts.specs.Judging.{all_well};
-ghost use Rattle.texts.specs.Storing.{Skipped, payload_at, link_here, LinkAhead, LinkPast, links_read, cuts_read, Storable};
+ghost use Rattle.texts.specs.Storing.{payload_at, link_here, Holds, Storable, Finds};
 
-use crate::Reading;
 use crate::frame::{byte_at, kind_at, number_at};
 use cutting::record::Record;
 use frames::frame::payload;
+use frames::kind::Kind;
 use meaning::Link;
 
-// The place behind the frame at a place.
-fn line_after(text: &[u8], at: usize) -> usize
-    requires { Well (drop at text.now) }
-    ensures { result ≡ at + 2 * size_at (drop at text.now) + 1 }
-{
-    at + 2 * (payload(kind_at(text, at)) + 2) + 1
+// What the frames of one kind hold, stored one behind the other: a link each, or the bytes of an entry each.
+pub(crate) trait Held: Copy {
+    // What a run of lines holds, and what the frame at the front of a text does.
+    ghost held: { List Line → List Self };
+
+    ghost part: { List ℕ → List Self };
+
+    // The kind of the frames that hold it: no other frame holds anything, and each of that kind a part.
+    ghost number: { ℕ };
+
+    fn kind() -> Kind
+        ensures value { number_of result ≡ number }
+        ensures holds { Holds (number_of result) held part };
+
+    // What the frame at a place holds, put into the room from a place on; gives the place behind it.
+    fn put(text: &[u8], at: usize, room: &mut [Self], to: usize) -> usize
+        requires well { Well (drop at text.now) }
+        requires kind { byte_at (drop at text.now) 0 ≡ number }
+        requires room { to + length (part (drop at text.now)) ≤ length room.old }
+        ensures value { result ≡ to + length (part (drop at text.now)) }
+        ensures room_after { room.new ≡ over room.old to (part (drop at text.now)) };
 }
 
-// The place of the next frame of that kind, or the end of the text.
-fn find_kind(text: &[u8], from: usize, kind: usize) -> usize
+impl Held for Link {
+    ghost held = { links_in };
+
+    ghost part = { λ cs. link_here cs ∷ [] };
+
+    ghost number = { 2 };
+
+    fn kind() -> Kind {
+        Kind::Link
+    }
+
+    fn put(text: &[u8], at: usize, room: &mut [Link], to: usize) -> usize {
+        room[to] = Link {
+            a: byte_at(text, at, 1),
+            b: byte_at(text, at, 2),
+            tally: number_at(text, at, 3),
+        };
+        to + 1
+    }
+}
+
+impl Held for u8 {
+    ghost held = { entries_in };
+
+    ghost part = { λ cs. payload_at cs entry_size };
+
+    ghost number = { 3 };
+
+    fn kind() -> Kind {
+        Kind::Cut
+    }
+
+    fn put(text: &[u8], at: usize, room: &mut [u8], to: usize) -> usize {
+        for i in 0..Record::ENTRY {
+            room[to + i] = byte_at(text, at, i + 1);
+        }
+        to + Record::ENTRY
+    }
+}
+
+// A frame that was found: its place, and the place behind it.
+#[derive(Clone, Copy)]
+struct Found {
+    at: usize,
+    next: usize,
+}
+
+// The next frame of that kind.
+fn find(text: &[u8], from: usize, kind: Kind) -> Option<Found>
     requires { (from ≤ length text.now) × T (all_well (lines_of (drop from text.now))) }
-    ensures { Skipped text.now from kind result }
+    ensures { Finds text.now from (number_of kind) result }
 {
     let mut at = from;
     while at < text.len() {
-        if kind_at(text, at) == kind {
-            return at;
+        let here = kind_at(text, at);
+        let next = at + 2 * payload(here as usize) + 5;
+        if here == kind {
+            return Some(Found { at, next });
         }
-        at = line_after(text, at);
+        at = next;
     }
-    at
+    None
 }
 
-// The link of the frame at a place.
-fn link_here(text: &[u8], at: usize) -> Link
-    requires { Well (drop at text.now) × (byte_at (drop at text.now) 0 ≡ 2) }
-    ensures { result ≡ link_here (drop at text.now) }
+// What a text that was judged holds, put at the front of the room lent for it; the rest of the room stays.
+pub(crate) fn store<T: Held>(text: &[u8], room: &mut [T])
+    requires { Storable text.now (T.held (lines_of text.now)) room.old }
+    ensures { room.new ≡ over room.old 0 (T.held (lines_of text.now)) }
 {
-    Link {
-        a: byte_at(text, at, 1),
-        b: byte_at(text, at, 2),
-        tally: number_at(text, at, 3),
-    }
-}
-
-// The next link from a place on.
-pub(crate) fn link_line(text: &[u8], at: usize) -> Link
-    requires { LinkAhead text.now at }
-    ensures { result ≡ get_or (links_in (lines_of (drop at text.now))) 0 no_link }
-{
-    link_here(text, find_kind(text, at, 2))
-}
-
-// The place behind the next link from a place on.
-pub(crate) fn link_past(text: &[u8], at: usize) -> usize
-    requires { LinkAhead text.now at }
-    ensures { LinkPast text.now at result }
-{
-    line_after(text, find_kind(text, at, 2))
-}
-
-// The entry of the frame at a place, put into the record space.
-fn store_entry(text: &[u8], at: usize, space: &mut [u8], to: usize)
-    requires { Well (drop at text.now) × (byte_at (drop at text.now) 0 ≡ 3) × (to + entry_size ≤ length space.old) }
-    ensures { space.new ≡ over space.old to (payload_at (drop at text.now) entry_size) }
-{
-    let mut i = 0;
-    while i < Record::ENTRY {
-        space[to + i] = byte_at(text, at, i + 1);
-        i += 1;
-    }
-}
-
-// So many entries of a text that was judged, put at the front of the record space; the rest of it stays.
-pub(crate) fn store_entries(text: &[u8], space: &mut [u8], cuts: usize)
-    requires { Storable text.now (cuts * entry_size) (length (entries_in (lines_of text.now))) (length space.old) }
-    ensures { space.new ≡ over space.old 0 (take (cuts * entry_size) (entries_in (lines_of text.now))) }
-{
-    let mut at = 0;
-    let mut i = 0;
-    while i < cuts {
-        let here = find_kind(text, at, 3);
-        store_entry(text, here, space, i * Record::ENTRY);
-        at = line_after(text, here);
-        i += 1;
-    }
-}
-
-// How many links of a reading are to be stored.
-pub(crate) fn links_of(found: Reading) -> usize
-    ensures { result ≡ links_read found }
-{
-    match found {
-        Reading::Got {
-            n: _,
-            k: _,
-            links,
-            cuts: _,
-        } => links as usize,
-        Reading::Refused {
-            number: _,
-            place: _,
-        } => 0,
-    }
-}
-
-// How many cuts of a reading are to be stored.
-pub(crate) fn cuts_of(found: Reading) -> usize
-    ensures { result ≡ cuts_read found }
-{
-    match found {
-        Reading::Got {
-            n: _,
-            k: _,
-            links: _,
-            cuts,
-        } => cuts as usize,
-        Reading::Refused {
-            number: _,
-            place: _,
-        } => 0,
+    let mut from = 0;
+    let mut to = 0;
+    while let Some(found) = find(text, from, T::kind()) {
+        to = T::put(text, found.at, room, to);
+        from = found.next;
     }
 }

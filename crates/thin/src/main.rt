@@ -3,14 +3,9 @@
 #![tactic(auto)]
 
 use answering::thin::{LONGEST, thin_text};
-use shell::input::{ROOM, read_input};
-use shell::output::print;
 use std::io;
 
 fn main(rt: HostRuntime) -> io::Result<()> {
-    let mut input = [0u8; ROOM];
     let mut out = [0u8; LONGEST];
-    let size = read_input(rt.stdin(), &mut input);
-    let answered = thin_text(&input[..size], &mut out);
-    print(rt.stdout(), answered, &out)
+    shell::run(rt.stdin(), rt.stdout(), thin_text, &mut out)
 }

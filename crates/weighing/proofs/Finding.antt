@@ -1,6 +1,6 @@
 -- What the search knows between piles and between passes; and a light split of a pile as a lawful cut.
 -- Assumes nothing.
-use Rattle.std.proofs.Common.{◌≡◌, ℕ, ◌+◌, ◌-◌, ◌^◌, ◌<◌, ◌≤◌, Bool, true, false, cond, not, ◌&&◌, T, eqb, List, length, replicate, sym, refl, ap, ◌∙◌, ⊎_elim, le_refl, arith}
+use Rattle.std.proofs.Common.{◌≡◌, ℕ, ◌+◌, ◌-◌, ◌^◌, ◌<◌, ◌≤◌, Bool, true, false, cond, not, Option, Some, None, ◌&&◌, T, eqb, List, length, replicate, sym, refl, ap, ◌∙◌, ⊎_elim, le_refl, arith}
 use mathlib.Core.Path.{fun_ext}
 use mathlib.Core.Bool.{beq}
 use native.Mathlib.Decide.{ℕ_discrete}
@@ -20,10 +20,12 @@ use Rattle.links.proofs.TableHeld.{held_symmetric}
 use Rattle.weighing.specs.Search.{Small, cut_of, FirmPiles, Searched}
 use Rattle.weighing.proofs.Listing.{beq_same, listed-place}
 use Rattle.weighing.proofs.Contracting.{total_wide, bulk}
-use Rattle.weighing.proofs.Searching.{Light, weight_on, Agree, Blocks, pass_firm, pass_light, pass_more, later_same}
+use Rattle.weighing.proofs.Searching.{Light, weight_on, Agree, Contracted, heads_few, pass_firm, pass_light, pass_more, later_same}
 use Rattle.weighing.specs.Lists.{listed, Once, marked}
 use Rattle.weighing.specs.Scan.{Passed}
-use Rattle.weighing.specs.Merge.{Long, Merges, none, more, unmarked, Laid}
+use Rattle.weighing.specs.declared.scan.Pass.{Pass}
+use Rattle.weighing.specs.Merge.{Merges, none, more, MergesIn, FoldedIn, Stacked, unmarked, LongIn, LaidOut}
+use Rattle.weighing.specs.declared.list.Blocks.{Blocks}
 use Rattle.weighing.specs.Moved.{Spread}
 
 -- the tallies of a pile fit where all do
@@ -73,129 +75,138 @@ module _ (n k : ℕ) (w : Tally) (symmetric : Symmetric w) (h : Heap) (p : ℕ) 
         light = light.is_light;
       }
 
--- the runs that a search works in have a place for each of 128 bones
-pub record Runs (list into start joins : List ℕ) : Type 0 where
-  pub long : Long list into start
-  pub joins_long : length joins ≡ 128
-
 -- before pile p: every pile from `from` on is firm, and the table is as it was
-pub record Piling (bones k : ℕ) (names : List ℕ) (from : ℕ) (t₀ t list into start joins : List ℕ) (p : ℕ) : Type 0 where
+pub record Piling (bones k : ℕ) (names : List ℕ) (from : ℕ) (t₀ t : List ℕ) (b : Blocks) (joins : List Bool) (p : ℕ) : Type 0 where
   pub few : bones ≤ 128
   pub same : t ≡ t₀
   pub begun : from ≤ p
   pub table_long : length t ≡ 16384
-  pub runs : Runs list into start joins
+  pub long : LongIn b
+  pub joins_long : length joins ≡ 128
   pub firm_before : Small bones t₀ → FirmPiles bones (held t₀) k (heap_of names) from p
 
 -- before a pass: the bones of the pile p are cut into blocks; t₀ is the table before the first pass
-pub record Passing (bones k : ℕ) (names t₀ t list into start joins : List ℕ) (count size p seed : ℕ) : Type 0 where
+pub record Passing (bones k : ℕ) (names t₀ t : List ℕ) (b : Blocks) (joins : List Bool) (p seed : ℕ) : Type 0 where
   pub few : bones ≤ 128
   pub low : p < bones
-  pub blocks : Blocks k t₀ t list into start count size
-  pub whole : listed list size ≡ pile bones (heap_of names) p
-  pub next : seed < count
+  pub blocks : Contracted k t₀ t b.list b.into b.start b.count b.size
+  pub whole : listed b.list b.size ≡ pile bones (heap_of names) p
+  pub next : seed < b.count
   pub table_long : length t ≡ 16384
-  pub runs : Runs list into start joins
+  pub long : LongIn b
+  pub joins_long : length joins ≡ 128
 
-pub piling_start : (bones k : ℕ) (names : List ℕ) (from : ℕ) (t : List ℕ) → bones ≤ 128 → length t ≡ 16384 → Piling bones k names from t t (replicate 128 0) (replicate 128 0) (replicate 128 0) (replicate 128 0) from
+pub piling_start : (bones k : ℕ) (names : List ℕ) (from : ℕ) (t : List ℕ) → bones ≤ 128 → length t ≡ 16384 → {b : Blocks} → LongIn b → Piling bones k names from t t b (replicate 128 false) from
 unfolding FirmPiles
-piling_start bones k names from t few long =
+piling_start bones k names from t few table long =
     record {
       few = few;
       same = refl;
       begun = omega arith;
-      table_long = long;
-      runs = omega (arith, length-replicate {A = ℕ} 128 0);
+      table_long = table;
+      long = long;
+      joins_long = length-replicate 128 false;
       firm_before = λ small q h l. absurd (omega arith);
     }
 
-module _ {bones k : ℕ} {names : List ℕ} {from : ℕ} {t₀ t list into start joins : List ℕ} {p : ℕ} (s : Piling bones k names from t₀ t list into start joins p) where
+module _ {bones k : ℕ} {names : List ℕ} {from : ℕ} {t₀ t : List ℕ} {b : Blocks} {joins : List Bool} {p : ℕ} (s : Piling bones k names from t₀ t b joins p) where
   -- the pile p is firm, or stands not: on to the next, with the table as it was
-  piling_on : {t' list' into' start' joins' : List ℕ} → t' ≡ t → Runs list' into' start' joins'
+  piling_on : {t' : List ℕ} {b' : Blocks} {joins' : List Bool} → t' ≡ t → LongIn b' → length joins' ≡ 128
       → (Small bones t₀ → T (stands bones (heap_of names) p) → T (firm bones (held t₀) k (pile bones (heap_of names) p)))
-      → Piling bones k names from t₀ t' list' into' start' joins' (p + 1)
+      → Piling bones k names from t₀ t' b' joins' (p + 1)
   unfolding FirmPiles
-  piling_on back runs here =
+  piling_on back long joins_long here =
       record {
         few = s.few;
         same = back ∙ s.same;
         begun = omega (arith, s.begun);
         table_long = ap length back ∙ s.table_long;
-        runs = runs;
+        long = long;
+        joins_long = joins_long;
         firm_before = λ small q low high. elim (ℕ_discrete q p) [ yes e ↦ rw e (here small) | no n ↦ s.firm_before small q low (omega arith) ];
       }
 
   -- no pile is named p
-  pub piling_skip : (heap_of names p ≡ p → ⊥) → Piling bones k names from t₀ t list into start joins (p + 1)
+  pub piling_skip : (heap_of names p ≡ p → ⊥) → Piling bones k names from t₀ t b joins (p + 1)
   unfolding stands
-  piling_skip other = piling_on refl s.runs (λ small q. absurd (other (pile_name bones (heap_of names) p p q)))
+  piling_skip other = piling_on refl s.long s.joins_long (λ small q. absurd (other (pile_name bones (heap_of names) p p q)))
 
   -- the passes over the pile p begin
-  pub passing_start : p < bones → heap_of names p ≡ p → (list₀ : List ℕ) (size : ℕ) → Once list₀ size → Agree (listed list₀ size) (pile bones (heap_of names) p) → Passing bones k names t t list₀ into start joins size size p 0
-  passing_start low named list₀ size once of =
-      let (i, below, is) = listed-place list₀ size p (rw of (pile_intro bones (heap_of names) p p low named)) in
+  pub passing_start : p < bones → heap_of names p ≡ p → {b' : Blocks} → Once b'.list b'.size → b'.count ≡ b'.size → LongIn b' → Agree (listed b'.list b'.size) (pile bones (heap_of names) p) → Passing bones k names t t b' joins p 0
+  passing_start low named {b'} once each long of =
+      let (i, below, is) = listed-place b'.list b'.size p (rw of (pile_intro bones (heap_of names) p p low named)) in
       record {
         few = s.few;
         low = low;
-        blocks = record {
+        blocks = rw each (record {
           some_bones = omega arith;
-          few = le_refl size;
+          few = le_refl b'.size;
           once = once;
           folded = λ j h l. absurd (omega arith);
           merges = none;
           kept = λ f d w j h l. absurd (omega arith);
-        };
+        });
         whole = fun_ext of;
         next = omega arith;
         table_long = s.table_long;
-        runs = omega (arith, once.long, s.runs);
+        long = long;
+        joins_long = s.joins_long;
       }
 
   -- no pile is left: all are firm
-  pub searched_none : bones ≤ p → Small bones t₀ → Searched bones (held t₀) k (heap_of names) from (record { light = false; pile = 0; weight = 0; side = replicate 16 0 }) false
+  pub searched_none : bones ≤ p → Small bones t₀ → Searched bones (held t₀) k (heap_of names) from None
   unfolding Searched FirmPiles
-  searched_none done small = (λ q h l. s.firm_before small q h (omega arith), refl, refl, refl)
+  searched_none done small = λ q h l. s.firm_before small q h (omega arith)
 
 -- merging keeps the table's length
 merges_long : {list into start t t' : List ℕ} {hi lo : ℕ} → length t ≡ 16384 → Merges list into start hi t lo t' → length t' ≡ 16384
 merges_long long none = long
 merges_long long (more m row) = row.long'
 
-module _ {bones k : ℕ} {names t t' list into start joins : List ℕ} {count size p seed : ℕ} (m : Passing bones k names t t' list into start joins count size p seed) {order joins' : List ℕ} {light : Bool} {weighs left : ℕ} (pass : Passed (held t') k list order joins' count light weighs left) where
+module _ {bones k : ℕ} {names t t' : List ℕ} {b : Blocks} {joins : List Bool} {p seed : ℕ} (m : Passing bones k names t t' b joins p seed) {order : List ℕ} {joins' : List Bool} {split : Option Pass} (pass : Passed (held t') k b.list order joins' b.count split) where
+  -- between two passes the blocks can be undone, and their marks spread
+  pub passing_stacked : Stacked b
+  passing_stacked = record { few = m.blocks.few; once = m.blocks.once; folded = m.blocks.folded }
+
+  -- what was laid out can be merged
+  pub passing_laid : {b' : Blocks} {heads : ℕ} → split ≡ None → heads ≡ unmarked joins' (b.count - 1) + 1 → LaidOut order joins' heads b b' → (heads ≤ b'.count) × Once b'.list b'.count × FoldedIn b' heads b'.count
+  passing_laid dark is (laid, same, _) = rw same (heads_few m.blocks pass dark is, laid.once, laid.folded)
+
   -- fewer blocks: the passes go on
-  pub passing_next : {list' into' start' t'' : List ℕ} {heads : ℕ} → light ≡ false → heads ≡ unmarked joins' (count - 1) + 1 → Laid order joins' count heads list into start list' into' start' → Merges list' into' start' count t' heads t''
-      → Passing bones k names t t'' list' into' start' joins' heads size p (heads - 1)
-  passing_next dark is laid merges =
-      record {
+  pub passing_next : {b' b'' : Blocks} {t'' : List ℕ} {heads : ℕ} → split ≡ None → heads ≡ unmarked joins' (b.count - 1) + 1 → LaidOut order joins' heads b b' → MergesIn b' b'.count t' heads t'' → b'' ≡ record b' { count = heads }
+      → Passing bones k names t t'' b'' joins' p (heads - 1)
+  passing_next dark is (laid, same, whole) merges e =
+      rw e (record {
         few = m.few;
         low = m.low;
-        blocks = pass_more m.blocks pass dark is laid merges;
-        whole = sym (later_same m.blocks pass dark is laid size m.blocks.few) ∙ m.whole;
+        blocks = rw whole (pass_more m.blocks pass dark is laid (rw same at merges));
+        whole = rw whole (sym (later_same m.blocks pass dark is laid b.size m.blocks.few) ∙ m.whole);
         next = omega arith;
         table_long = merges_long m.table_long merges;
-        runs = omega (arith, laid.long, pass.ordered.long);
-      }
+        long = laid.long;
+        joins_long = pass.ordered.long;
+      })
 
-  module _ {from : ℕ} {t₀ list₀ into₀ start₀ joins₀ : List ℕ} (s : Piling bones k names from t₀ t list₀ into₀ start₀ joins₀ p) where
-    below : (b : ℕ) → T (listed list size b) → b < bones
+  module _ {from : ℕ} {t₀ : List ℕ} {b₀ : Blocks} {joins₀ : List Bool} (s : Piling bones k names from t₀ t b₀ joins₀ p) where
+    below : (x : ℕ) → T (listed b.list b.size x) → x < bones
     below = rw m.whole (pile_bone bones (heap_of names) p)
 
-    fits_at : Small bones t → bulk (held t) (listed list size) < 2 ^ 32
-    fits_at = small_fits bones s.few t (listed list size) below
+    fits_at : Small bones t → bulk (held t) (listed b.list b.size) < 2 ^ 32
+    fits_at = small_fits bones s.few t (listed b.list b.size) below
 
     -- the pile is firm
-    pub piling_next : {heads : ℕ} {t'' : List ℕ} → light ≡ false → heads ≡ unmarked joins' (count - 1) + 1 → heads ≡ 1 → t'' ≡ t → Piling bones k names from t₀ t'' list into start joins' (p + 1)
+    pub piling_next : {heads : ℕ} {t'' : List ℕ} → split ≡ None → heads ≡ unmarked joins' (b.count - 1) + 1 → heads ≡ 1 → t'' ≡ t → Piling bones k names from t₀ t'' b joins' (p + 1)
     piling_next dark is one back =
-        piling_on s back (omega (arith, m.runs, pass.ordered.long))
+        piling_on s back m.long pass.ordered.long
         (rw (← s.same) (λ small q. rw m.whole at (pass_firm m.blocks pass bones s.few below dark (sym is ∙ one) (fits_at small))))
 
     -- a light split: the cut of this pile, those before it being firm
-    pub searched : heap_of names p ≡ p → light ≡ true → {marks : List ℕ} → Spread order left list into count size marks → (side : List ℕ) → Agree (side_of side) (apart bones (heap_of names) p (marked marks))
-        → Small bones t₀ → Searched bones (held t₀) k (heap_of names) from (record { light = true; pile = p; weight = weighs; side = side }) true
+    pub searched : heap_of names p ≡ p → {f : Pass} → split ≡ Some f → {marks : List Bool} → Spread order f.left b.list b.into b.count b.size marks → (side : List ℕ) → Agree (side_of side) (apart bones (heap_of names) p (marked marks))
+        → Small bones t₀ → Searched bones (held t₀) k (heap_of names) from (Some (record { pile = p; weight = f.weight; side = side }))
     unfolding Searched cut_of stands
-    searched named lit {marks} spread side of small = (
+    searched named {f = found} lit {marks} spread side of small = (
       rw (← s.same, fun_ext of)
-          (light_lawful bones k (held t) (held_symmetric t) (heap_of names) p (marked marks) (pile_intro bones (heap_of names) p p m.low named) weighs
+          (light_lawful bones k (held t) (held_symmetric t) (heap_of names) p (marked marks) (pile_intro bones (heap_of names) p p m.low named) found.weight
           (rw m.whole at (pass_light m.blocks pass bones s.few below lit marks spread (fits_at (rw s.same small))))),
       s.begun,
       s.firm_before small,

@@ -1,12 +1,13 @@
 -- Places of a list filled one by one, each with a bone that stands in none of them yet: the bones of a pile put into a list; and the bones of a pass laid out,
 -- the first of them, one more that is tied or leads, and all of them.
 -- Assumes nothing.
-use Rattle.std.proofs.Common.{◌≡◌, ℕ, ◌+◌, ◌-◌, ◌<◌, ◌≤◌, cond, not, T, eqb, ltb, ◌⊎◌, List, length, get_or, set, sym, refl, ap, ◌∙◌, inl, inr, ⊎_elim, le_refl, eq-or-lt_of_le, arith, ltb→lt, nltb→le, T_not, length-set, get_or-set_other, get_or-set_same, eq-eqb, ne_eqb}
+use Rattle.std.proofs.Common.{◌≡◌, ℕ, ◌+◌, ◌-◌, ◌<◌, ◌≤◌, Bool, cond, not, T, eqb, ltb, ◌⊎◌, List, length, get_or, set, sym, refl, ap, ◌∙◌, inl, inr, ⊎_elim, le_refl, eq-or-lt_of_le, arith, ltb→lt, nltb→le, T_not, length-set, get_or-set_other, get_or-set_same, eq-eqb, ne_eqb}
+use Rattle.std.specs.Int.{from_bool}
 use native.Mathlib.Decide.{ℕ_discrete}
 use Rattle.meaning.specs.Count.{Bones}
 use Rattle.meaning.proofs.Tests.{decide, same_test}
 use Rattle.weighing.specs.Lists.{listed, Once, marked}
-use Rattle.weighing.proofs.Listing.{cond_yes, cond_no, listed_by, listed-place, stored, listed_ext, listed_less, unmarked_most, unmarked_tied, unmarked_head}
+use Rattle.weighing.proofs.Listing.{bit_of, cond_yes, cond_no, listed_by, listed-place, stored, listed_ext, listed_less, unmarked_most, unmarked_tied, unmarked_head}
 use Rattle.weighing.specs.Merge.{Long, Fold, unmarked, Laid}
 
 pub last_or : (p n : ℕ) → p < n + 1 → (p ≡ n) ⊎ (p < n)
@@ -74,17 +75,17 @@ pub record Gathered (S : Bones) (list : List ℕ) (m b : ℕ) : Type 0 where
   pub filled : Filled list (λ p. p < m) (λ x. T (S x) × (x < b))
 
 -- the next place may hold any bone
-pub gathered_next : {S : Bones} {list : List ℕ} {m b : ℕ} → Gathered S list m b → b < 128 → (r : ℕ) → r ≡ cond (S b) 1 0 → r ≤ 1 → Gathered S (set list m b) (m + r) (b + 1)
-gathered_next {S} {list} {m} {b} so small r e few =
+pub gathered_next : {S : Bones} {list : List ℕ} {m b : ℕ} → Gathered S list m b → b < 128 → (r : ℕ) → r ≡ from_bool (S b) → Gathered S (set list m b) (m + r) (b + 1)
+gathered_next {S} {list} {m} {b} so small r e =
     record {
       long = length-set list m b ∙ so.long;
-      most = omega arith;
+      most = omega (arith, e, bit_of (S b));
       filled = ⊎_elim
-          (λ t. let one : r ≡ 1 = e ∙ cond_yes (S b) 1 0 t in
+          (λ t. let one : r ≡ 1 = e ∙ (bit_of (S b)).0 ∙ cond_yes (S b) 1 0 t in
           filled_next so.filled m b (λ h. omega arith) (omega arith) (λ h. omega arith)
           (omega arith, λ p h. omega arith, λ p h. last_or p m (omega arith))
           ((t, omega arith), λ x h. (h.0, omega arith), λ x h. ⊎_elim inl (λ l. inr (h.0, l)) (last_or x b h.1)))
-          (λ f. let none : r ≡ 0 = e ∙ cond_no (S b) 1 0 f in
+          (λ f. let none : r ≡ 0 = e ∙ (bit_of (S b)).0 ∙ cond_no (S b) 1 0 f in
           filled_as (filled-kept so.filled m b (λ h. omega arith)) (λ p h. omega arith) (λ p h. omega arith) (λ x h. (h.0, omega arith))
           (λ x h. ⊎_elim (λ (q : x ≡ b). absurd (T_not (S b) f (rw q at h.0))) (λ l. (h.0, l)) (last_or x b h.1)))
           (decide (S b));
@@ -99,11 +100,11 @@ abbrev Stood : ℕ → ℕ → ℕ → ℕ → Type 0
 Stood front heads back p = (p < front) ⊎ ((heads ≤ p) × (p < back))
 
 -- what is the same for each two bones tied in the pass
-abbrev Alike : List ℕ → List ℕ → ℕ → Bones → Type 0
+abbrev Alike : List ℕ → List Bool → ℕ → Bones → Type 0
 Alike order joins count d = (i : ℕ) → i + 1 < count → T (marked joins i) → d (get_or order (i + 1) 0) ≡ d (get_or order i 0)
 
 -- the bones in the places from i on of `order` are laid out, and those from `group` on are tied to `head`
-pub record Laying (order joins : List ℕ) (count heads : ℕ) (list₀ into₀ start₀ list into start : List ℕ) (head group front back i : ℕ) : Type 0 where
+pub record Laying (order : List ℕ) (joins : List Bool) (count heads : ℕ) (list₀ into₀ start₀ list into start : List ℕ) (head group front back i : ℕ) : Type 0 where
   pub long : Long list into start
   pub last : i < count
   pub to_come : front + unmarked joins i ≡ heads
@@ -115,7 +116,7 @@ pub record Laying (order joins : List ℕ) (count heads : ℕ) (list₀ into₀ 
   pub joined : (d : Bones) → Alike order joins count d → (j : ℕ) → heads ≤ j → j < back → d (get_or into j 0) ≡ d (get_or list j 0)
   pub rest : (j : ℕ) → count ≤ j → (get_or list j 0 ≡ get_or list₀ j 0) × (get_or into j 0 ≡ get_or into₀ j 0) × (get_or start j 0 ≡ get_or start₀ j 0)
 
-module _ {order joins : List ℕ} {count heads : ℕ} (ones : Once order count) where
+module _ {order : List ℕ} {joins : List Bool} {count heads : ℕ} (ones : Once order count) where
   -- the one taken first leads
   pub laying_start : (list into start : List ℕ) → 0 < count → heads ≡ unmarked joins (count - 1) + 1 → Long list into start
       → Laying order joins count heads (set list 0 (get_or order (count - 1) 0)) into start (set list 0 (get_or order (count - 1) 0)) into start (get_or order (count - 1) 0) heads 1 heads (count - 1)
@@ -177,11 +178,11 @@ module _ {order joins : List ℕ} {count heads : ℕ} (ones : Once order count) 
               from = so.here.from;
               upto = omega (arith, so.here.upto);
               stands = kept head so.here.stands;
-              alike = λ x l h. stored into back head (λ j y. y ≡ head) (omega (arith, tied_room)) refl x (λ n. so.here.alike x l (omega arith));
+              alike = λ x l h. stored into back head 0 (λ j y. y ≡ head) (omega (arith, tied_room)) refl x (λ n. so.here.alike x l (omega arith));
             };
             tied = ties;
             joined = λ d s j l h.
-                stored into back head (λ k y. d y ≡ d (get_or (set list back (get_or order (i - 1) 0)) k 0)) (omega (arith, tied_room))
+                stored into back head 0 (λ k y. d y ≡ d (get_or (set list back (get_or order (i - 1) 0)) k 0)) (omega (arith, tied_room))
                 (ties d s ∙ ap d (sym (get_or-set_same list back _ 0 (omega (arith, tied_room)))))
                 j
                 (λ n. so.joined d s j l (omega arith) ∙ ap d (sym (get_or-set_other list back j _ 0 n)));

@@ -1,11 +1,14 @@
 -- Laws of what a test chooses and of stores; and of lists of bones: which are listed, two places that change what they hold, and marks counted.
 -- Assumes nothing.
-use Rattle.std.proofs.Common.{◌≡◌, ℕ, zero, suc, ◌+◌, ◌-◌, ◌<◌, ◌≤◌, Bool, true, false, cond, not, ◌&&◌, ◌||◌, T, eqb, ltb, List, length, get_or, set, replicate, sym, refl, ap, ◌∙◌, ap₂, ⊎_elim, le_refl, not-suc-le-zero, add-one, arith, eqb→eq, ltb→lt, lt→ltb, length-set, get_or-set_other, get_or-set_same, lt-length-set}
+use Rattle.std.proofs.Common.{◌≡◌, ℕ, zero, suc, ◌+◌, ◌-◌, ◌<◌, ◌≤◌, Bool, true, false, cond, not, ◌&&◌, ◌||◌, T, eqb, ltb, List, length, get_or, take, set, replicate, sym, refl, ap, ◌∙◌, ap₂, ⊎_elim, le_refl, eq-or-lt_of_le, not-suc-le-zero, add-one, arith, eqb→eq, ltb→lt, lt→ltb, length-set, get_or-set_other, get_or-set_same, lt-length-set}
+use Rattle.std.specs.Int.{from_bool}
+use Rattle.std.specs.List.{count_by, list_any, range_with_len}
+use Rattle.std.proofs.lemmas.List.Sums.{count_by_more_no, count_by_more_yes}
 use mathlib.Core.Bool.{beq}
 use native.Mathlib.Decide.{ℕ_discrete}
 use lib.Dec.{eqb_refl, not_T}
 use Rattle.meaning.specs.Count.{Bones, sum, count, some}
-use Rattle.meaning.proofs.Tests.{◌⇒◌, imp, decide, both, left_of, right_of, is_true, is_false, same_test, eq→eqb, neqb→ne, ne→neqb}
+use Rattle.meaning.proofs.Tests.{◌⇒◌, imp, decide, either, or_left, or_right, both, left_of, right_of, is_true, is_false, same_test, eq→eqb, neqb→ne, ne→neqb}
 use Rattle.meaning.proofs.Sums.{sum_next, sum_ext, sum-zero, sum-add, count_most, sum_at}
 use Rattle.meaning.proofs.Sets.{some_intro, some_elim, some_same}
 use Rattle.weighing.specs.Lists.{listed, Once, swapped, marked}
@@ -18,6 +21,11 @@ cond_yes false a b h = absurd h
 pub cond_no : (t : Bool) (a b : ℕ) → T (not t) → cond t a b ≡ b
 cond_no true a b h = absurd h
 cond_no false a b h = refl
+
+-- a test as a number
+pub bit_of : (t : Bool) → (from_bool t ≡ cond t 1 0) × (from_bool t ≤ 1)
+bit_of true = (refl, omega arith)
+bit_of false = (refl, omega arith)
 
 pub cond_none : (t : Bool) → ◌≡◌ {A = ℕ} (cond t 0 0) 0
 cond_none true = refl
@@ -49,14 +57,18 @@ eqb_turn a b = same_test _ _ (λ t. eq→eqb b a (sym (eqb→eq a b t))) (λ t. 
 pub ltb_skip : (b i : ℕ) → (b ≡ i → ⊥) → ltb b i ≡ ltb b (i + 1)
 ltb_skip b i f = same_test _ _ (λ t. lt→ltb b (i + 1) (omega (arith, ltb→lt b i t))) (λ t. lt→ltb b i (omega (arith, ltb→lt b (i + 1) t)))
 
+-- a run that is the same in every place
+pub blank : {A : Type 0} (v : A) (s b : ℕ) → get_or (replicate s v) b v ≡ v
+blank v zero b = refl
+blank v (suc s) zero = refl
+blank v (suc s) (suc b) = blank v s b
+
 pub noughts : (s b : ℕ) → ◌≡◌ {A = ℕ} (get_or (replicate s 0) b 0) 0
-noughts zero b = refl
-noughts (suc s) zero = refl
-noughts (suc s) (suc b) = noughts s b
+noughts = blank 0
 
 -- what a place holds after a store, by whether it is the one
-pub stored : (xs : List ℕ) (at v : ℕ) (P : ℕ → ℕ → Type 0) → at < length xs → P at v → (i : ℕ) → ((i ≡ at → ⊥) → P i (get_or xs i 0)) → P i (get_or (set xs at v) i 0)
-stored xs at v P h here i other = elim (ℕ_discrete i at) [ yes e ↦ rw (e, get_or-set_same xs at v 0 h) here | no n ↦ rw (get_or-set_other xs at i v 0 n) (other n) ]
+pub stored : {A : Type 0} (xs : List A) (at : ℕ) (v d : A) (P : ℕ → A → Type 0) → at < length xs → P at v → (i : ℕ) → ((i ≡ at → ⊥) → P i (get_or xs i d)) → P i (get_or (set xs at v) i d)
+stored xs at v d P h here i other = elim (ℕ_discrete i at) [ yes e ↦ rw (e, get_or-set_same xs at v d h) here | no n ↦ rw (get_or-set_other xs at i v d n) (other n) ]
 
 -- ---- which bones are listed
 
@@ -185,21 +197,49 @@ module _ (xs : List ℕ) (at left M : ℕ) (so : Once xs M) (here : at < left) (
 
 -- ---- marks counted
 
-pub unmarked_most : (joins : List ℕ) (m : ℕ) → unmarked joins m ≤ m
+pub unmarked_most : (joins : List Bool) (m : ℕ) → unmarked joins m ≤ m
 unfolding unmarked
 unmarked_most joins m = count_most m _
 
-pub unmarked_next : (joins : List ℕ) (m : ℕ) → unmarked joins (m + 1) ≡ unmarked joins m + cond (not (marked joins m)) 1 0
+pub unmarked_next : (joins : List Bool) (m : ℕ) → unmarked joins (m + 1) ≡ unmarked joins m + cond (not (marked joins m)) 1 0
 unfolding unmarked count
 unmarked_next joins m = sum_next m _
 
-pub unmarked_tied : (joins : List ℕ) (m : ℕ) → T (marked joins m) → unmarked joins (m + 1) ≡ unmarked joins m
+pub unmarked_tied : (joins : List Bool) (m : ℕ) → T (marked joins m) → unmarked joins (m + 1) ≡ unmarked joins m
 unmarked_tied joins m t = omega (arith, rw (is_true (marked joins m) t) at (unmarked_next joins m))
 
-pub unmarked_head : (joins : List ℕ) (m : ℕ) → T (not (marked joins m)) → unmarked joins (m + 1) ≡ unmarked joins m + 1
+pub unmarked_head : (joins : List Bool) (m : ℕ) → T (not (marked joins m)) → unmarked joins (m + 1) ≡ unmarked joins m + 1
 unmarked_head joins m t = omega (arith, rw (is_false (marked joins m) t) at (unmarked_next joins m))
 
-pub unmarked_less : (joins : List ℕ) (m : ℕ) → T (marked joins 0) → 0 < m → unmarked joins m < m
+-- the same as the library counts
+pub unmarked_count : (joins : List Bool) (m : ℕ) → m ≤ length joins → count_by not (take m joins) ≡ unmarked joins m
+unfolding unmarked count sum marked
+unmarked_count joins zero h = refl
+unmarked_count joins (suc m) h =
+    let before = unmarked_count joins m (omega arith) in
+    let step : count_by not (take (m + 1) joins) ≡ unmarked joins (m + 1) = ⊎_elim
+    (λ t. count_by_more_no not joins m false (omega arith) (ap not (is_true (marked joins m) t)) ∙ before ∙ sym (unmarked_tied joins m t))
+    (λ f. count_by_more_yes not joins m false (omega arith) (ap not (is_false (marked joins m) f)) ∙ ap (λ (x : ℕ). x + 1) before ∙ sym (unmarked_head joins m f))
+    (decide (marked joins m)) in
+    rw (add-one m) at step
+
+-- a test of the numbers below n, tried one by one
+any_elim : (P : Bones) (a n : ℕ) → T (list_any P (range_with_len a n)) → (k : ℕ) × (a ≤ k) × (k < a + n) × T (P k)
+any_elim P a zero t = absurd t
+any_elim P a (suc n) t = ⊎_elim (λ h. (a, le_refl a, omega arith, h)) (λ h. let r = any_elim P (a + 1) n h in (r.0, omega arith, omega arith, r.3)) (either (P a) _ t)
+
+any_intro : (P : Bones) (a n k : ℕ) → a ≤ k → k < a + n → T (P k) → T (list_any P (range_with_len a n))
+any_intro P a zero k h l t = absurd (omega arith)
+any_intro P a (suc n) k h l t =
+    ⊎_elim (λ (e : a ≡ k). or_left (P a) _ (rw e t)) (λ g. or_right (P a) _ (any_intro P (a + 1) n k (omega arith) (omega arith) t)) (eq-or-lt_of_le h)
+
+pub any_below : (P : Bones) (n : ℕ) → list_any P (range_with_len 0 n) ≡ some n P
+any_below P n =
+    same_test _ _
+    (λ t. let r = any_elim P 0 n t in some_intro n P r.0 (omega arith) r.3)
+    (λ t. let r = some_elim n P t in any_intro P 0 n r.0 (omega arith) (omega arith) r.2)
+
+pub unmarked_less : (joins : List Bool) (m : ℕ) → T (marked joins 0) → 0 < m → unmarked joins m < m
 unmarked_less joins zero t h = absurd (not-suc-le-zero h)
 unmarked_less joins (suc zero) t h = omega (arith, unmarked_tied joins 0 t, unmarked_most joins 0)
 unmarked_less joins (suc (suc m)) t h =

@@ -14,27 +14,27 @@ use Rattle.weighing.specs.Moved.{Spread}
 use Rattle.weighing.proofs.Listing.{stored, listed_more, listed-not, noughts, ltb_skip}
 
 -- one mark set
-marked_same : (marks : List ℕ) (x v : ℕ) → x < length marks → marked (set marks x v) x ≡ eqb v 1
+marked_same : (marks : List Bool) (x : ℕ) (v : Bool) → x < length marks → marked (set marks x v) x ≡ v
 unfolding marked
 marked_same marks x v h = rw get_or-set_same
 
-marked_other : (marks : List ℕ) (x y v : ℕ) → (x ≡ y → ⊥) → marked (set marks x v) y ≡ marked marks y
+marked_other : (marks : List Bool) (x y : ℕ) (v : Bool) → (x ≡ y → ⊥) → marked (set marks x v) y ≡ marked marks y
 unfolding marked
-marked_other marks x y v f = rw (get_or-set_other marks x y v 0 (λ e. f (sym e)))
+marked_other marks x y v f = rw (get_or-set_other marks x y v false (λ e. f (sym e)))
 
 -- ---- the bones of the order
 
-pub free_next : (xs marks : List ℕ) (i x : ℕ) → length marks ≡ 128 → x < 128 → x ≡ get_or xs i 0 → ((b : ℕ) → marked marks b ≡ listed xs i b) → (b : ℕ) → marked (set marks x 1) b ≡ listed xs (i + 1) b
+pub free_next : (xs : List ℕ) (marks : List Bool) (i x : ℕ) → length marks ≡ 128 → x < 128 → x ≡ get_or xs i 0 → ((b : ℕ) → marked marks b ≡ listed xs i b) → (b : ℕ) → marked (set marks x true) b ≡ listed xs (i + 1) b
 unfolding marked
 free_next xs marks i x long low e so b =
     rw (listed_more, ← e)
-    (stored marks x 1 (λ b y. eqb y 1 ≡ (listed xs i b || eqb b x)) (omega arith) (rw (eq-eqb x x refl, or-true)) b (λ n. rw (ne_eqb b x n, or-false) (so b)))
+    (stored marks x true false (λ b y. y ≡ (listed xs i b || eqb b x)) (omega arith) (rw (eq-eqb x x refl, or-true)) b (λ n. rw (ne_eqb b x n, or-false) (so b)))
 
 -- ---- the bones merged
 
-pub spread_next : {order list into marks : List ℕ} {left count size : ℕ} (j x v : ℕ) → Once list size
+pub spread_next : {order list into : List ℕ} {marks : List Bool} {left count size : ℕ} (j x : ℕ) (v : Bool) → Once list size
     → ((i : ℕ) → count ≤ i → i < size → T (listed list i (get_or into i 0))) → count ≤ j → j < size
-    → x ≡ get_or list j 0 → v ≡ get_or marks (get_or into j 0) 0
+    → x ≡ get_or list j 0 → v ≡ get_or marks (get_or into j 0) false
     → Spread order left list into count j marks → Spread order left list into count (j + 1) (set marks x v)
 unfolding marked
 spread_next {order} {list} {into} {marks} {left} {count} {size} j x v o before from within at copied so =

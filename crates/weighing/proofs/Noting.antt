@@ -1,7 +1,8 @@
 -- Laws of degrees: one bone more is noted, and notes are lessened; and of the cut that parts one bone from its pile: what it weighs, that it is lawful, and its
 -- side as bytes.
 -- Assumes nothing.
-use Rattle.std.proofs.Common.{◌≡◌, ℕ, ◌+◌, ◌*◌, ◌%◌, ◌^◌, ◌<◌, ◌≤◌, Bool, true, false, cond, not, ◌&&◌, T, eqb, ltb, List, length, get_or, set, replicate, sym, refl, ap, ◌∙◌, ⊎_elim, zero-le, le_refl, add-zero, arith, eqb→eq, ltb→lt, length-set, get_or-set_other, get_or-set_same, le-ltb, lt-ltb, eq-eqb, ne_eqb}
+use Rattle.std.proofs.Common.{◌≡◌, ℕ, ◌+◌, ◌*◌, ◌%◌, ◌^◌, ◌<◌, Bool, true, false, cond, not, ◌&&◌, T, eqb, ltb, List, length, get_or, set, replicate, sym, refl, ap, ◌∙◌, ⊎_elim, zero-le, le_refl, add-zero, Some, arith, eqb→eq, ltb→lt, length-set, get_or-set_other, get_or-set_same, le-ltb, lt-ltb, eq-eqb, ne_eqb}
+use Rattle.std.specs.Int.{from_bool}
 use mathlib.Core.Path.{fun_ext}
 use mathlib.Core.Bool.{and-false, beq}
 use native.Mathlib.Decide.{ℕ_discrete}
@@ -17,7 +18,7 @@ use Rattle.meaning.proofs.Firm.{splits_intro}
 use Rattle.meaning.proofs.Heaps.{pile_intro}
 use Rattle.weighing.specs.Side.{side_of}
 use Rattle.weighing.proofs.Sides.{pile_below}
-use Rattle.weighing.proofs.Listing.{cond_none, cond_and, cond_plus, eqb_turn, ltb_skip, noughts, stored, beq_same}
+use Rattle.weighing.proofs.Listing.{cond_none, cond_and, cond_plus, eqb_turn, ltb_skip, noughts, blank, stored, beq_same}
 use Rattle.weighing.specs.Degrees.{toward, others, mate, degree, Noted, share, parting, Notes, Lessened, joined, moves, Loosed}
 use Rattle.weighing.proofs.Taking.{at_bone, total_at}
 use Rattle.weighing.proofs.Finding.{apart, light_lawful}
@@ -32,14 +33,14 @@ toward_next i w S b = sum_next i _
 -- ---- notes
 
 -- a number or nought, as a product
-pub product : (x : ℕ) (t : Bool) {y : ℕ} → y ≡ cond t 1 0 → (x * y ≡ cond t x 0) × (x * y ≤ x)
-product x true e = (rw e (omega arith), rw e (omega arith))
-product x false e = (rw e (omega arith), rw e (omega arith))
+pub product : (x : ℕ) (t : Bool) {y : ℕ} → y ≡ from_bool t → x * y ≡ cond t x 0
+product x true e = rw e (omega arith)
+product x false e = rw e (omega arith)
 
 -- one place more is stored
 pub store_next : (f g : ℕ → ℕ) (d : List ℕ) (i v : ℕ) → i < length d → (get_or d i 0 ≡ g i → v ≡ f i) → ((b : ℕ) → get_or d b 0 ≡ cond (ltb b i) (f b) (g b)) → (b : ℕ) → get_or (set d i v) b 0 ≡ cond (ltb b (i + 1)) (f b) (g b)
 store_next f g d i v low e known b =
-    stored d i v (λ b y. y ≡ cond (ltb b (i + 1)) (f b) (g b)) low (rw (lt-ltb i (i + 1) (omega arith)) (e (known i ∙ rw (le-ltb i i (le_refl i))))) b
+    stored d i v 0 (λ b y. y ≡ cond (ltb b (i + 1)) (f b) (g b)) low (rw (lt-ltb i (i + 1) (omega arith)) (e (known i ∙ rw (le-ltb i i (le_refl i))))) b
     (λ n. known b ∙ ap (λ (t : Bool). cond t (f b) (g b)) (ltb_skip b i n))
 
 noted : {n : ℕ} {w : Tally} {h : Heap} {d : List ℕ} → length d ≡ 128 → ((b : ℕ) → get_or d b 0 ≡ cond (ltb b n) (degree n w h b % 2 ^ 32) 0) → Noted n w h d
@@ -96,9 +97,9 @@ pub less_at : {f : ℕ → ℕ} {d d' : List ℕ} (i x v : ℕ) → i < 128 → 
 less_at {f} {d} {d'} i x v low fits e known =
     let room : i < length d' = omega (arith, known.notes.long) in
     record {
-      notes = record { long = length-set d' i v ∙ known.notes.long; small = λ b. stored d' i v (λ b y. y < 2 ^ 32) room fits b (λ n. known.notes.small b) };
+      notes = record { long = length-set d' i v ∙ known.notes.long; small = λ b. stored d' i v 0 (λ b y. y < 2 ^ 32) room fits b (λ n. known.notes.small b) };
       each = λ b.
-          stored d' i v (λ b y. (y + (f b + cond (eqb b i) x 0)) % 2 ^ 32 ≡ get_or d b 0) room (rw (eq-eqb i i refl) (omega (arith, e, known.each i))) b
+          stored d' i v 0 (λ b y. (y + (f b + cond (eqb b i) x 0)) % 2 ^ 32 ≡ get_or d b 0) room (rw (eq-eqb i i refl) (omega (arith, e, known.each i))) b
           (λ n. rw (ne_eqb b i n, add-zero) (known.each b));
     }
 
@@ -150,7 +151,7 @@ pub joined_low : (n : ℕ) (h : Heap) (u : ℕ) → T (joined n h u) → u < n
 unfolding joined
 joined_low n h u t = ltb→lt u n (left_of (ltb u n) _ t)
 
-pub loosed : (n : ℕ) (w : Tally) (k : ℕ) (h : Heap) (u : ℕ) (r : Split) → Symmetric w → T (joined n h u) → r.pile ≡ h u → r.weight ≡ degree n w h u → r.weight < k → ((b : ℕ) → side_of r.side b ≡ moves n h u b) → Loosed n w k h u r true
+pub loosed : (n : ℕ) (w : Tally) (k : ℕ) (h : Heap) (u : ℕ) (r : Split) → Symmetric w → T (joined n h u) → r.pile ≡ h u → r.weight ≡ degree n w h u → r.weight < k → ((b : ℕ) → side_of r.side b ≡ moves n h u b) → Loosed n w k h u (Some r)
 unfolding Loosed cut_of joined mate others
 loosed n w k h u r symmetric t named weighed light side =
     let low = joined_low n h u t in
@@ -166,11 +167,11 @@ loosed n w k h u r symmetric t named weighed light side =
     }) in
     (rw (named, fun_ext (λ b. side b ∙ moves_apart n w h u low b)) cut, named, weighed, side)
 
--- a run of noughts with one mark
-pub one_mark : (u b s : ℕ) → u < length {A = ℕ} (replicate s 0) → marked (set (replicate s 0) u 1) b ≡ eqb b u
+-- a run of marks with one set
+pub one_mark : (u b s : ℕ) → u < length (replicate s false) → marked (set (replicate s false) u true) b ≡ eqb b u
 unfolding marked
 one_mark u b s low =
     ⊎_elim
-    (λ t. rw (is_true (eqb b u) t, eqb→eq b u t, get_or-set_same {A = ℕ} (replicate s 0) u 1 0 low))
-    (λ t. rw (is_false (eqb b u) t, get_or-set_other {A = ℕ} (replicate s 0) u b 1 0 (neqb→ne b u t), noughts s b))
+    (λ t. rw (is_true (eqb b u) t, eqb→eq b u t, get_or-set_same (replicate s false) u true false low))
+    (λ t. rw (is_false (eqb b u) t, get_or-set_other (replicate s false) u b true false (neqb→ne b u t), blank false s b))
     (decide (eqb b u))

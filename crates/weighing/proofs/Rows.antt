@@ -12,8 +12,9 @@ use Rattle.links.specs.Table.{spot, held, raised}
 use Rattle.links.proofs.TableSpots.{one_pair}
 use Rattle.links.proofs.TableRaised.{length-raised, held-raised, raised_elsewhere}
 use Rattle.weighing.specs.Lists.{listed, Once}
-use Rattle.weighing.specs.Merge.{but_for, Row, RowAdded, RowTaken, Merges, Fold}
-use Rattle.weighing.proofs.Listing.{beq_same, with_one, listed_more, listed_low, listed-not, once_less}
+use Rattle.weighing.specs.Merge.{but_for, Row, RowAdded, RowTaken, Merges, Fold, Grouped, Stacked}
+use Rattle.weighing.specs.declared.list.Blocks.{Blocks}
+use Rattle.weighing.proofs.Listing.{beq_same, with_one, listed_more, listed_low, listed_less, listed-not, once_less}
 
 -- no pair yet
 pub row-start : {f : ℕ → ℕ} {Fits : ℕ → ℕ → Type 0} (t xs : List ℕ) (a b : ℕ) → length t ≡ 16384 → Row f Fits t t a b (but_for (listed xs 0) a)
@@ -89,15 +90,23 @@ row_back {t} {t'} {t''} {a} {b} R ha hb ab added taken =
 -- ---- merges
 
 -- what a row wants of a bone and its head
-pub fold_place : {list into : List ℕ} {lo hi j s v : ℕ} → Once list hi → Fold list into lo s j s v → j < hi → (v < 128) × (get_or list j 0 < 128) × (v ≡ get_or list j 0 → ⊥) × Once list s
-fold_place {list} {j = j} {s = s} {v = v} single fold high =
+pub grouped_at : {b : Blocks} {lo hi j : ℕ} → Once b.list hi → Fold b.list b.into lo (get_or b.start j 0) j (get_or b.start j 0) (get_or b.into j 0) → j < hi → Grouped b j
+grouped_at {b} {j = j} single fold high =
+    let s = get_or b.start j 0 in
+    let v = get_or b.into j 0 in
     let before = fold.upto in
-    let group = once_less {l = s} single (omega arith) in (
-      listed_low group v fold.stands,
-      single.low j high,
-      λ e. T_not (listed list s (get_or list j 0)) (listed-not single s j before high) (rw e at fold.stands),
-      group,
-    )
+    let group = once_less {l = s} single (omega arith) in
+    record {
+      low = omega (arith, single.few);
+      head_low = listed_low group v fold.stands;
+      bone_low = single.low j high;
+      apart = λ e. T_not (listed b.list s (get_or b.list j 0)) (listed-not single s j before high) (rw e at fold.stands);
+      group = group;
+    }
+
+-- a head stands before the bones that were merged into it
+pub before : {b : Blocks} → Stacked b → (j : ℕ) → b.count ≤ j → j < b.size → T (listed b.list j (get_or b.into j 0))
+before {b} stacked j h l = let f = stacked.folded j h l in listed_less b.list (get_or b.start j 0) j (get_or b.into j 0) f.upto f.stands
 
 module _ {list into start : List ℕ} {hi : ℕ} {t : List ℕ} where
   pub merges_low : {lo : ℕ} {t' : List ℕ} → Merges list into start hi t lo t' → lo ≤ hi

@@ -1,6 +1,6 @@
 -- What holds in a pass: bones reached from the one taken last, and what is known whenever the next one is to be taken.
 -- Assumes nothing.
-use Rattle.std.proofs.Common.{◌≡◌, ℕ, ◌+◌, ◌-◌, ◌*◌, ◌^◌, ◌<◌, ◌≤◌, Bool, true, false, cond, not, ◌&&◌, T, eqb, leb, List, length, get_or, set, replicate, sym, refl, ◌∙◌, ⊎_elim, le_refl, arith, le→leb, leb→le, length-set, get_or-set_other, get_or-set_same, ne_eqb}
+use Rattle.std.proofs.Common.{◌≡◌, ℕ, ◌+◌, ◌-◌, ◌*◌, ◌^◌, ◌<◌, ◌≤◌, Bool, false, not, ◌&&◌, T, eqb, leb, List, length, get_or, set, Some, None, replicate, sym, refl, ◌∙◌, ⊎_elim, le_refl, arith, le→leb, leb→le, length-set, get_or-set_other, get_or-set_same, ne_eqb}
 use mathlib.Core.Bool.{or-false}
 use native.Mathlib.Decide.{ℕ_discrete}
 use lib.ListN.{length-replicate}
@@ -66,7 +66,7 @@ module _ {w : Tally} {order : List ℕ} {u i m : ℕ} {attach₀ attach attach' 
 -- ---- the pass
 
 -- what is known when the bone in place `at` is to be taken; the bones of the pass are those that `before` lists
-pub record Scan (w : Tally) (k : ℕ) (before order joins attach : List ℕ) (count left at top : ℕ) : Type 0 where
+pub record Scan (w : Tally) (k : ℕ) (before order : List ℕ) (joins : List Bool) (attach : List ℕ) (count left at top : ℕ) : Type 0 where
   pub symmetric : Symmetric w
   pub ordered : Ordered before order joins count
   pub attach_long : length attach ≡ 128
@@ -80,7 +80,7 @@ pub record Scan (w : Tally) (k : ℕ) (before order joins attach : List ℕ) (co
   pub heavy : left < count → k ≤ sum left (λ i. get_or attach (get_or order i 0) 0)
   pub tied : (i : ℕ) → left ≤ i → i + 1 < count → T (marked joins i) → Tied w k (listed before count) (get_or order (i + 1) 0) (get_or order i 0)
 
-pub scan_start : (w : Tally) → Symmetric w → (k : ℕ) (order joins : List ℕ) (count seed : ℕ) → Once order count → seed < count → length joins ≡ 128 → Scan w k order order joins (replicate 128 0) count count seed 0
+pub scan_start : (w : Tally) → Symmetric w → (k : ℕ) (order : List ℕ) (joins : List Bool) (count seed : ℕ) → Once order count → seed < count → length joins ≡ 128 → Scan w k order order joins (replicate 128 0) count count seed 0
 scan_start w symmetric k order joins count seed once h long =
     record {
       symmetric = symmetric;
@@ -98,9 +98,9 @@ scan_start w symmetric k order joins count seed once h long =
     }
 
 -- the bone in place `at` is taken: it stands in place left − 1
-module _ {w : Tally} {k : ℕ} {before order joins attach : List ℕ} {count left at top : ℕ} (s : Scan w k before order joins attach count left at top) {order' : List ℕ} {u : ℕ} (is : (order' ≡ swapped order at (left - 1)) × (u ≡ get_or order at 0) × (u < 256)) {v : ℕ} (m : v ≡ cond (leb k top) 1 0) where
-  abbrev joins' : List ℕ
-  joins' = set joins (left - 1) v
+module _ {w : Tally} {k : ℕ} {before order : List ℕ} {joins : List Bool} {attach : List ℕ} {count left at top : ℕ} (s : Scan w k before order joins attach count left at top) {order' : List ℕ} {u : ℕ} (is : (order' ≡ swapped order at (left - 1)) × (u ≡ get_or order at 0) × (u < 256)) where
+  abbrev joins' : List Bool
+  joins' = set joins (left - 1) (leb k top)
 
   abbrev L : Bones
   L = listed before count
@@ -125,11 +125,7 @@ module _ {w : Tally} {k : ℕ} {before order joins attach : List ℕ} {count lef
 
   mark_is : (i : ℕ) → i ≡ left - 1 → marked joins' i ≡ leb k top
   unfolding marked
-  mark_is i e = rw (e, get_or-set_same joins (left - 1) v 0 (omega (arith, s.ordered.long, s.next, s.few, s.ordered.once.few)), m) (is_one (leb k top))
-    where
-      is_one : (t : Bool) → eqb (cond t 1 0) 1 ≡ t
-      is_one true = refl
-      is_one false = refl
+  mark_is i e = rw (e, get_or-set_same joins (left - 1) (leb k top) false (omega (arith, s.ordered.long, s.next, s.few, s.ordered.once.few)))
 
   -- the ties go on
   taken_tied : (i : ℕ) → left - 1 ≤ i → i + 1 < count → T (marked joins' i) → Tied w k L (get_or order' (i + 1) 0) (get_or order' i 0)
@@ -142,14 +138,14 @@ module _ {w : Tally} {k : ℕ} {before order joins attach : List ℕ} {count lef
         (light_ties w s.symmetric L (listed order left) within k u (get_or order left 0) s.bounded u_low u_free (omega (arith, top_tie)))
     | no n ↦
         let g : left ≤ i = omega arith in
-        rw (then.above (i + 1) (omega arith), then.above i g) (s.tied i g l (rw (get_or-set_other joins (left - 1) i v 0 n) at t))
+        rw (then.above (i + 1) (omega arith), then.above i g) (s.tied i g l (rw (get_or-set_other joins (left - 1) i (leb k top) false n) at t))
   ]
 
   ordered' : Ordered before order' joins' count
   ordered' = record { once = then.once; same = λ b. then.same b ∙ s.ordered.same b; long = rw length-set s.ordered.long }
 
   -- nothing is left to take
-  pub passed_done : left - 1 ≡ 0 → Passed w k before order' joins' count false 0 0
+  pub passed_done : left - 1 ≡ 0 → Passed w k before order' joins' count None
   unfolding sum
   passed_done none =
       record {
@@ -179,7 +175,7 @@ module _ {w : Tally} {k : ℕ} {before order joins attach : List ℕ} {count lef
         )
 
     -- a light split: the sum is what the free bones weigh
-    pub passed_light : out < k → Passed w k before order' joins' count true out (left - 1)
+    pub passed_light : out < k → Passed w k before order' joins' count (Some (record { weight = out; left = left - 1 }))
     passed_light less =
         record {
           ordered = ordered';

@@ -1,7 +1,7 @@
 -- A pile searched pass by pass: its bones stand in a list, the first `count` places of which lead a block, and all others were merged. What is known
 -- before each pass, and what a pass makes of it: a light split of the pile, that the pile is firm, or fewer leaders.
 -- Assumes nothing.
-use Rattle.std.proofs.Common.{◌≡◌, ℕ, zero, suc, ◌+◌, ◌-◌, ◌^◌, ◌<◌, ◌≤◌, Bool, true, false, cond, not, ◌&&◌, T, eqb, ltb, List, get_or, sym, refl, ap, ◌∙◌, subst, ⊎_elim, le_refl, not-suc-le-zero, add-one, arith, eqb→eq, ltb→lt, nltb→le, T_not}
+use Rattle.std.proofs.Common.{◌≡◌, ℕ, zero, suc, ◌+◌, ◌-◌, ◌^◌, ◌<◌, ◌≤◌, Bool, true, false, cond, Option, Some, None, not, ◌&&◌, T, eqb, ltb, List, get_or, sym, refl, ap, ◌∙◌, subst, ⊎_elim, le_refl, not-suc-le-zero, add-one, arith, eqb→eq, ltb→lt, nltb→le, T_not}
 use mathlib.Core.Path.{fun_ext}
 use lib.Dec.{eqb_refl}
 use Rattle.meaning.specs.Count.{Bones, count}
@@ -13,6 +13,7 @@ use Rattle.meaning.proofs.Firm.{weight_inside, splits_intro, splits_elim, firm_i
 use Rattle.links.specs.Table.{held}
 use Rattle.weighing.specs.Lists.{listed, Once, marked}
 use Rattle.weighing.specs.Scan.{Tied, Passed}
+use Rattle.weighing.specs.declared.scan.Pass.{Pass}
 use Rattle.weighing.specs.Merge.{but_for, Merges, none, more, Folded, unmarked, Laid}
 use Rattle.weighing.specs.Moved.{Spread}
 use Rattle.weighing.proofs.Listing.{with_one, cond_yes, listed_at, listed_by, listed-place, listed_more, listed_low, listed_less, listed-not, once_less, unmarked_most, unmarked_less}
@@ -34,7 +35,7 @@ by_place i m below from = ⊎_elim (λ t. below (ltb→lt i m t)) (λ t. from (n
 -- ---- merges keep weights
 
 -- where no place is unmarked, every one is marked
-all_marked : (joins : List ℕ) (m : ℕ) → unmarked joins m ≡ 0 → (i : ℕ) → i < m → T (marked joins i)
+all_marked : (joins : List Bool) (m : ℕ) → unmarked joins m ≡ 0 → (i : ℕ) → i < m → T (marked joins i)
 unfolding unmarked count
 all_marked joins m e i h =
     ⊎_elim (λ t. t)
@@ -79,7 +80,7 @@ module _ (list into start : List ℕ) (lo hi : ℕ) (once : Once list hi) (folde
 -- ---- a pile in the midst of its passes
 
 -- t₀ is the table as it was, t as it is
-pub record Blocks (k : ℕ) (t₀ t list into start : List ℕ) (count size : ℕ) : Type 0 where
+pub record Contracted (k : ℕ) (t₀ t list into start : List ℕ) (count size : ℕ) : Type 0 where
   pub some_bones : 0 < count
   pub few : count ≤ size
   pub once : Once list size
@@ -115,7 +116,7 @@ listed_on xs ys count e rest (suc m) h =
     by_place m count (λ l. let all : count ≡ suc m = omega arith in rw all at e)
     (λ g. rw (← add-one m, listed_more xs m, listed_more ys m, rest m g, listed_on xs ys count e rest m g))
 
-module _ {k : ℕ} {t₀ t list into start : List ℕ} {count size : ℕ} (s : Blocks k t₀ t list into start count size) where
+module _ {k : ℕ} {t₀ t list into start : List ℕ} {count size : ℕ} (s : Contracted k t₀ t list into start count size) where
   -- a split that is even weighs what it weighs among the leaders
   leaders_weigh : bulk (held t₀) (listed list size) < 2 ^ 32 → (d : Bones) → Even list into count size d → weight 128 (held t) (listed list count) d ≡ weight 128 (held t₀) (listed list size) d
   leaders_weigh fits = (merges_keep list into start count size s.once s.folded (le_refl count) fits s.merges).1
@@ -129,14 +130,14 @@ module _ {k : ℕ} {t₀ t list into start : List ℕ} {count size : ℕ} (s : B
       let before = (s.folded i low l).upto in
       sym (even i low l) ∙ ap d (sym is) ∙ spreads d v even all m x (omega arith) (omega arith))
 
-  module _ {order joins : List ℕ} {light : Bool} {weighs left : ℕ} (p : Passed (held t) k list order joins count light weighs left) where
+  module _ {order : List ℕ} {joins : List Bool} {split : Option Pass} (p : Passed (held t) k list order joins count split) where
     -- a light split of the pile ties what the pass tied
-    even_tied : light ≡ false → bulk (held t₀) (listed list size) < 2 ^ 32 → (d : Bones) → weight 128 (held t₀) (listed list size) d < k → (i : ℕ) → i + 1 < count → T (marked joins i) → d (get_or order (i + 1) 0) ≡ d (get_or order i 0)
+    even_tied : split ≡ None → bulk (held t₀) (listed list size) < 2 ^ 32 → (d : Bones) → weight 128 (held t₀) (listed list size) d < k → (i : ℕ) → i + 1 < count → T (marked joins i) → d (get_or order (i + 1) 0) ≡ d (get_or order i 0)
     unfolding Tied
     even_tied dark fits d less i h m = (rw dark at p.found).0 i h m d (omega (arith, leaders_weigh fits d (s.kept fits d less)))
 
     -- all bones tied to the one before: the pile, whose bones are below n, is firm
-    pub pass_firm : (n : ℕ) → n ≤ 128 → ((b : ℕ) → T (listed list size b) → b < n) → light ≡ false → unmarked joins (count - 1) + 1 ≡ 1 → bulk (held t₀) (listed list size) < 2 ^ 32 → T (firm n (held t₀) k (listed list size))
+    pub pass_firm : (n : ℕ) → n ≤ 128 → ((b : ℕ) → T (listed list size b) → b < n) → split ≡ None → unmarked joins (count - 1) + 1 ≡ 1 → bulk (held t₀) (listed list size) < 2 ^ 32 → T (firm n (held t₀) k (listed list size))
     pass_firm n few below dark one fits =
         firm_intro n (held t₀) k (listed list size)
         (λ A cut. let e = splits_elim n (listed list size) A cut in
@@ -159,10 +160,11 @@ module _ {k : ℕ} {t₀ t list into start : List ℕ} {count size : ℕ} (s : B
             ap A (sym is) ∙ spreads A _ (s.kept fits A less) led (suc x) x (le_refl (suc x)) below
 
     -- a light split of the pile: the free leaders, with all that were merged into them
-    pub pass_light : (n : ℕ) → n ≤ 128 → ((b : ℕ) → T (listed list size b) → b < n) → light ≡ true → (marks : List ℕ) → Spread order left list into count size marks → bulk (held t₀) (listed list size) < 2 ^ 32 → Light n k (held t₀) (listed list size) (marked marks) weighs
-    pass_light n few below lit marks m fits =
+    pub pass_light : (n : ℕ) → n ≤ 128 → ((b : ℕ) → T (listed list size b) → b < n) → {s : Pass} → split ≡ Some s → (marks : List Bool) → Spread order s.left list into count size marks → bulk (held t₀) (listed list size) < 2 ^ 32 → Light n k (held t₀) (listed list size) (marked marks) s.weight
+    pass_light n few below {s = found} lit marks m fits =
         let (some_left, some-taken, weighed, less) = rw lit at p.found in
         let led : (i : ℕ) → i < count → T (listed list count (get_or order i 0)) = λ i h. rw p.ordered.same at (listed_at order count i h) in
+        let left = found.left in
         let first = listed_less list count size _ s.few (led 0 (omega arith)) in
         let last = listed_less list count size _ s.few (led left some-taken) in
         record {
@@ -173,7 +175,7 @@ module _ {k : ℕ} {t₀ t list into start : List ℕ} {count size : ℕ} (s : B
         }
 
     -- the bones laid out anew: the heads lead, and places from `count` on are as they were
-    module _ (dark : light ≡ false) {heads : ℕ} (is : heads ≡ unmarked joins (count - 1) + 1) where
+    module _ (dark : split ≡ None) {heads : ℕ} (is : heads ≡ unmarked joins (count - 1) + 1) where
       pub heads_few : heads ≤ count
       heads_few = omega (arith, unmarked_most joins (count - 1), s.some_bones)
 
@@ -220,7 +222,7 @@ module _ {k : ℕ} {t₀ t list into start : List ℕ} {count size : ℕ} (s : B
             (rw ((laid.rest j h).1, (laid.rest j h).0, (laid.rest j h).2, ← later_same (get_or start j 0) (s.folded j h (omega (arith, merges_low m))).from) row)
 
         -- the groups are merged: fewer leaders
-        pub pass_more : {t' : List ℕ} → Merges list' into' start' count t heads t' → Blocks k t₀ t' list' into' start' heads size
+        pub pass_more : {t' : List ℕ} → Merges list' into' start' count t heads t' → Contracted k t₀ t' list' into' start' heads size
         pass_more m =
             let whole = later_same size s.few in
             record {

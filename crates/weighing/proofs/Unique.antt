@@ -1,7 +1,8 @@
 -- What the promises of the search and of the degrees settle: two answers that both keep one are equal. Of a search, whether there is a light split and in
 -- which pile; which split of that pile is free.
 -- Assumes nothing.
-use Rattle.std.proofs.Common.{◌≡◌, ℕ, ◌<◌, ◌≤◌, Bool, true, false, ltb, List, length, sym, refl, ◌∙◌, ⊎_elim, arith, ltb→lt, nltb→le, ext_get_or}
+use Rattle.std.proofs.Common.{◌≡◌, ℕ, ◌<◌, ◌≤◌, ltb, List, length, Option, Some, None, is_some, sym, refl, ap, ◌∙◌, ⊎_elim, arith, ltb→lt, nltb→le, ext_get_or}
+use Rattle.std.specs.Option.{option_map}
 use Rattle.meaning.specs.Bytes.{Bytes}
 use Rattle.meaning.specs.Tally.{Tally}
 use Rattle.meaning.specs.Heap.{Heap, Lawful, stands}
@@ -25,20 +26,20 @@ module _ (n : ℕ) (w : Tally) (k : ℕ) (h : Heap) (from : ℕ) where
   unfolding cut_of stands
   found r law = pile_bone n h r.pile r.pile law.standing
 
-  same_found : (r s : Split) (a b : Bool) → Searched n w k h from r a → Searched n w k h from s b → (a ≡ b) × (r.pile ≡ s.pile)
+  -- where one answer is none, every answer is
+  pub searched_none : (s : Option Split) → Searched n w k h from None → Searched n w k h from s → s ≡ None
   unfolding Searched
-  same_found r s true true x y = (refl, omega (arith, past r x.0 x.1 s.pile y.2, past s y.0 y.1 r.pile x.2))
-  same_found r s true false x y = absurd (omega (arith, past r x.0 x.1 n y.0, found r x.0))
-  same_found r s false true x y = absurd (omega (arith, past s y.0 y.1 n x.0, found s y.0))
-  same_found r s false false x y = (refl, x.1 ∙ sym y.1)
+  searched_none None x y = refl
+  searched_none (Some s) x y = absurd (omega (arith, past s y.0 y.1 n x, found s y.0))
 
-  pub searched_unique : (r s : Split) → Searched n w k h from r r.light → Searched n w k h from s s.light → (r.light ≡ s.light) × (r.pile ≡ s.pile)
-  searched_unique r s = same_found r s r.light s.light
-
-  -- where nothing was found, all of the answer is settled
-  pub searched_none : (r s : Split) → Searched n w k h from r false → Searched n w k h from s false → (r.weight ≡ s.weight) × (r.side ≡ s.side)
+  pub searched_unique : (r s : Option Split) → Searched n w k h from r → Searched n w k h from s
+      → (is_some r ≡ is_some s) × (option_map (λ x. x.pile) r ≡ option_map (λ x. x.pile) s)
   unfolding Searched
-  searched_none r s x y = (x.2 ∙ sym y.2, x.3 ∙ sym y.3)
+  searched_unique (Some r) (Some s) x y =
+      let same : r.pile ≡ s.pile = omega (arith, past r x.0 x.1 s.pile y.2, past s y.0 y.1 r.pile x.2) in
+      (refl, ap Some same)
+  searched_unique (Some r) None x y = absurd (omega (arith, past r x.0 x.1 n y, found r x.0))
+  searched_unique None s x y = let none = searched_none s x y in rw none (refl, refl)
 
 -- ---- degrees
 
@@ -49,10 +50,18 @@ pub lessened_unique : (less : ℕ → ℕ) (before c d : List ℕ) → Lessened 
 lessened_unique less before c d x y =
     ext_get_or 0 c d (x.notes.long ∙ sym y.notes.long) (λ b l. omega (arith, x.each b, y.each b, x.notes.small b, y.notes.small b))
 
--- a bone cut off by itself; that a side is 16 bytes its type says
-pub loosed_unique : (n : ℕ) (w : Tally) (k : ℕ) (h : Heap) (u : ℕ) (r s : Split) (light : Bool) → length r.side ≡ length s.side → Bytes r.side → Bytes s.side
-    → Loosed n w k h u r light → Loosed n w k h u s light → (r.pile ≡ s.pile) × (r.weight ≡ s.weight) × (r.side ≡ s.side)
+-- that two sides are runs of bytes of one length, as their type says
+abbrev pub SameWidth : Option Split → Option Split → Type 0
+SameWidth r s = (a b : Split) → r ≡ Some a → s ≡ Some b → (length a.side ≡ length b.side) × Bytes a.side × Bytes b.side
+
+-- a bone cut off by itself: two answers that agree on whether it was are the same
+pub loosed_unique : (n : ℕ) (w : Tally) (k : ℕ) (h : Heap) (u : ℕ) (r s : Option Split) → is_some r ≡ is_some s → SameWidth r s
+    → Loosed n w k h u r → Loosed n w k h u s → r ≡ s
 unfolding Loosed
-loosed_unique n w k h u r s true long are are' x y =
-    (x.1 ∙ sym y.1, x.2 ∙ sym y.2, sides_same r.side s.side long are are' (λ b. x.3 b ∙ sym (y.3 b)))
-loosed_unique n w k h u r s false long are are' x y = (x.0 ∙ sym y.0, x.1 ∙ sym y.1, x.2 ∙ sym y.2)
+loosed_unique n w k h u (Some r) (Some s) e wide x y =
+    let (long, bytes, bytes') = wide r s refl refl in
+    let side : r.side ≡ s.side = sides_same r.side s.side long bytes bytes' (λ b. x.3 b ∙ sym (y.3 b)) in
+    ap Some (rw (x.1, x.2, side, ← y.1, ← y.2))
+loosed_unique n w k h u (Some r) None e wide x y = cc
+loosed_unique n w k h u None (Some s) e wide x y = cc
+loosed_unique n w k h u None None e wide x y = refl

@@ -1,5 +1,5 @@
 -- Degrees: a bone's tally with the other bones of its pile, as notes that are kept from cut to cut, and the cut that parts one bone from its pile.
-use Rattle.std.specs.Prelude.{◌≡◌, ℕ, ◌+◌, ◌%◌, ◌^◌, ◌<◌, Bool, true, false, cond, not, ◌&&◌, List, length, replicate, ◌==◌, nat_lt, slice_index}
+use Rattle.std.specs.Prelude.{◌≡◌, ℕ, ◌+◌, ◌%◌, ◌^◌, ◌<◌, Bool, cond, not, ◌&&◌, List, length, ◌==◌, Option, Some, None, nat_lt, slice_index}
 use Rattle.meaning.specs.Count.{Bones, sum, some}
 use Rattle.meaning.specs.Tally.{Tally}
 use Rattle.meaning.specs.Heap.{Heap, Lawful, pile, stands}
@@ -68,7 +68,7 @@ loose n w k h u = joined n h u && nat_lt (degree n w h u) k
 unfoldable pub moves : ℕ → Heap → ℕ → Bones
 moves n h u b = cond (h u == u) (nat_lt b n && mate h u b) (b == u)
 
--- that cut, by cases on whether it was made
-unfoldable pub Loosed : ℕ → Tally → ℕ → Heap → ℕ → Split → Bool → Type 0
-Loosed n w k h u r true = Lawful n w k h (cut_of r) × (r.pile ≡ h u) × (r.weight ≡ degree n w h u) × ((b : ℕ) → side_of r.side b ≡ moves n h u b)
-Loosed n w k h u r false = (r.pile ≡ 0) × (r.weight ≡ 0) × (r.side ≡ replicate 16 0)
+-- that cut, where it was made
+unfoldable pub Loosed : ℕ → Tally → ℕ → Heap → ℕ → Option Split → Type 0
+Loosed n w k h u (Some r) = Lawful n w k h (cut_of r) × (r.pile ≡ h u) × (r.weight ≡ degree n w h u) × ((b : ℕ) → side_of r.side b ≡ moves n h u b)
+Loosed n w k h u None = Unit {0}

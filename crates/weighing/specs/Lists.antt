@@ -1,5 +1,5 @@
--- Bones in the first places of a run of 128 bytes, and marks for each of 128.
-use Rattle.std.specs.Prelude.{◌≡◌, ℕ, ◌<◌, ◌≤◌, List, length, ◌==◌, nat_eq, slice_index, slice_set}
+-- Bones in the first places of a run of 128 bytes, and a mark for each of 128.
+use Rattle.std.specs.Prelude.{◌≡◌, ℕ, ◌<◌, ◌≤◌, Bool, false, List, length, nat_eq, slice_index, slice_index_or, slice_set}
 use Rattle.meaning.specs.Count.{Bones, some}
 
 -- bone b stands in one of the first m places
@@ -18,5 +18,5 @@ abbrev pub swapped : List ℕ → ℕ → ℕ → List ℕ
 swapped xs i j = slice_set (slice_set xs i (slice_index xs j)) j (slice_index xs i)
 
 -- the marks that a run holds
-unfoldable pub marked : List ℕ → Bones
-marked marks x = slice_index marks x == 1
+unfoldable pub marked : List Bool → Bones
+marked marks x = slice_index_or marks x false

@@ -1,9 +1,10 @@
 -- Blocks contracted in the pair table, and taken back out. The bones of a pile stand in a list; those in its first places lead a block, and
 -- each of the others was merged into one that stands before it.
-use Rattle.std.specs.Prelude.{◌≡◌, ℕ, ◌+◌, ◌-◌, ◌%◌, ◌^◌, ◌<◌, ◌≤◌, not, ◌&&◌, T, List, length, ◌==◌, ◌≢◌, slice_index}
+use Rattle.std.specs.Prelude.{◌≡◌, ℕ, ◌+◌, ◌-◌, ◌%◌, ◌^◌, ◌<◌, ◌≤◌, Bool, not, ◌&&◌, T, List, length, ◌==◌, ◌≢◌, slice_index}
 use Rattle.meaning.specs.Count.{Bones, count}
 use Rattle.links.specs.Table.{spot, held}
 use Rattle.weighing.specs.Lists.{listed, Once, marked}
+use Rattle.weighing.specs.declared.list.Blocks.{Blocks}
 
 -- R without a
 abbrev pub but_for : Bones → ℕ → Bones
@@ -43,8 +44,33 @@ pub record Fold (list into : List ℕ) (lo m j s v : ℕ) : Type 0 where
 abbrev pub Folded : List ℕ → List ℕ → List ℕ → ℕ → ℕ → Type 0
 Folded list into start lo hi = (j : ℕ) → lo ≤ j → j < hi → Fold list into lo (slice_index start j) j (slice_index start j) (slice_index into j)
 
+-- the same of blocks
+abbrev pub MergesIn : Blocks → ℕ → List ℕ → ℕ → List ℕ → Type 0
+MergesIn b hi t lo t' = Merges b.list b.into b.start hi t lo t'
+
+abbrev pub FoldedIn : Blocks → ℕ → ℕ → Type 0
+FoldedIn b lo hi = Folded b.list b.into b.start lo hi
+
+-- blocks as they stand between two passes: each bone stands once, and each that was merged has a head that stands before its group
+pub record Stacked (b : Blocks) : Type 0 where
+  pub few : b.count ≤ b.size
+  pub once : Once b.list b.size
+  pub folded : FoldedIn b b.count b.size
+
+-- what a row wants of the bone in place j and its head
+pub record Grouped (b : Blocks) (j : ℕ) : Type 0 where
+  pub low : j < 128
+  pub head_low : slice_index b.into j < 128
+  pub bone_low : slice_index b.list j < 128
+  pub apart : slice_index b.into j ≢ slice_index b.list j
+  pub group : Once b.list (slice_index b.start j)
+
+-- and what it does
+abbrev pub RowAt : (ℕ → ℕ) → (ℕ → ℕ → Type 0) → Blocks → ℕ → List ℕ → List ℕ → Type 0
+RowAt f Fits b j t t' = Row f Fits t t' (slice_index b.into j) (slice_index b.list j) (but_for (listed b.list (slice_index b.start j)) (slice_index b.into j))
+
 -- how many of the first m places bear no mark
-unfoldable pub unmarked : List ℕ → ℕ → ℕ
+unfoldable pub unmarked : List Bool → ℕ → ℕ
 unmarked joins m = count m (λ i. not (marked joins i))
 
 -- three runs with a place for each of 128 bones
@@ -53,7 +79,7 @@ Long list into start = (length list ≡ 128) × (length into ≡ 128) × (length
 
 -- the bones of a pass laid out: heads first, then the bones tied to them, group by group. What is the same for each two bones tied in the pass is
 -- the same for a bone and its head. Places from `count` on are as they were.
-pub record Laid (order joins : List ℕ) (count heads : ℕ) (list₀ into₀ start₀ list into start : List ℕ) : Type 0 where
+pub record Laid (order : List ℕ) (joins : List Bool) (count heads : ℕ) (list₀ into₀ start₀ list into start : List ℕ) : Type 0 where
   pub once : Once list count
   pub same : (b : ℕ) → listed list count b ≡ listed order count b
   pub folded : Folded list into start heads count
@@ -61,3 +87,11 @@ pub record Laid (order joins : List ℕ) (count heads : ℕ) (list₀ into₀ st
       → (j : ℕ) → heads ≤ j → j < count → d (slice_index into j) ≡ d (slice_index list j)
   pub long : Long list into start
   pub rest : (j : ℕ) → count ≤ j → (slice_index list j ≡ slice_index list₀ j) × (slice_index into j ≡ slice_index into₀ j) × (slice_index start j ≡ slice_index start₀ j)
+
+-- the runs of blocks have a place for each of 128 bones
+abbrev pub LongIn : Blocks → Type 0
+LongIn b = Long b.list b.into b.start
+
+-- the same of blocks, which are as many as before until they are merged
+abbrev pub LaidOut : List ℕ → List Bool → ℕ → Blocks → Blocks → Type 0
+LaidOut order joins heads b b' = Laid order joins b.count heads b.list b.into b.start b'.list b'.into b'.start × (b'.count ≡ b.count) × (b'.size ≡ b.size)

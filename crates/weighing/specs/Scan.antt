@@ -1,9 +1,10 @@
 -- What the parts of a pass promise one another. A pass takes the bones of a list one by one, each time one with the greatest tally to those
 -- taken before.
-use Rattle.std.specs.Prelude.{◌≡◌, ℕ, ◌+◌, ◌*◌, ◌^◌, ◌<◌, ◌≤◌, Bool, true, false, cond, T, ◌⊎◌, List, length, slice_index, slice_set}
+use Rattle.std.specs.Prelude.{◌≡◌, ℕ, ◌+◌, ◌*◌, ◌^◌, ◌<◌, ◌≤◌, Bool, cond, T, Option, Some, None, ◌⊎◌, List, length, slice_index, slice_set}
 use Rattle.meaning.specs.Count.{Bones, sum}
 use Rattle.meaning.specs.Tally.{Tally, weight}
 use Rattle.weighing.specs.Lists.{listed, Once, marked}
+use Rattle.weighing.specs.declared.scan.Pass.{Pass}
 
 -- no split of L below k parts x from y
 unfoldable pub Tied : Tally → ℕ → Bones → ℕ → ℕ → Type 0
@@ -29,18 +30,18 @@ pub record Reached (w : Tally) (order : List ℕ) (u m : ℕ) (attach attach' : 
   pub most : out ≤ m * 2 ^ 41
 
 -- the bones of `before` in another order, and a mark for each of 128
-pub record Ordered (before order joins : List ℕ) (count : ℕ) : Type 0 where
+pub record Ordered (before order : List ℕ) (joins : List Bool) (count : ℕ) : Type 0 where
   pub once : Once order count
   pub same : (b : ℕ) → listed order count b ≡ listed before count b
   pub long : length joins ≡ 128
 
--- where a pass is light, a split of L: the bones in the first places, which were still free; or a mark for each that is tied to the one taken before it
-abbrev pub Found : Tally → ℕ → Bones → List ℕ → List ℕ → ℕ → ℕ → ℕ → Bool → Type 0
-Found w k L order joins count weighs left true = (0 < left) × (left < count) × (weighs ≡ weight 128 w L (listed order left)) × (weighs < k)
-Found w k L order joins count weighs left false =
+-- a light split of L that a pass found: the bones in the first places, which were still free; or a mark for each that is tied to the one taken before it
+abbrev pub Found : Tally → ℕ → Bones → List ℕ → List Bool → ℕ → Option Pass → Type 0
+Found w k L order joins count (Some p) = (0 < p.left) × (p.left < count) × (p.weight ≡ weight 128 w L (listed order p.left)) × (p.weight < k)
+Found w k L order joins count None =
     ((i : ℕ) → i + 1 < count → T (marked joins i) → Tied w k L (slice_index order (i + 1)) (slice_index order i)) × (1 < count → T (marked joins 0))
 
 -- what a pass leaves: the bones in the order of taking, the last first, and what it found
-pub record Passed (w : Tally) (k : ℕ) (before order joins : List ℕ) (count : ℕ) (light : Bool) (weighs left : ℕ) : Type 0 where
+pub record Passed (w : Tally) (k : ℕ) (before order : List ℕ) (joins : List Bool) (count : ℕ) (split : Option Pass) : Type 0 where
   pub ordered : Ordered before order joins count
-  pub found : Found w k (listed before count) order joins count weighs left light
+  pub found : Found w k (listed before count) order joins count split

@@ -5,6 +5,7 @@ pub mod degrees;
 mod list;
 mod merge;
 mod moved;
+mod piles;
 mod scan;
 pub mod search;
 pub mod side;

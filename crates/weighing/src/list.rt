@@ -1,93 +1,102 @@
 // The bones of a pile in a list, and how a list is laid out after a pass.
-ghost use Rattle.std.specs.Prelude.{◌≡◌, ℕ, ◌+◌, ◌-◌, ◌<◌, ◌≤◌, length, if◌then◌else◌, slice_index};
-ghost use Rattle.meaning.specs.Heap.{pile};
-ghost use Rattle.weighing.specs.Side.{heap_of};
+ghost use Rattle.std.specs.Prelude.{◌≡◌, ℕ, ◌+◌, ◌-◌, ◌<◌, ◌≤◌, slice_index};
+ghost use Rattle.weighing.specs.Piles.{pile_in};
 ghost use Rattle.weighing.specs.Lists.{listed, Once, swapped};
-ghost use Rattle.weighing.specs.Merge.{unmarked, Long, Laid};
+ghost use Rattle.weighing.specs.Merge.{unmarked, LongIn, LaidOut};
 
-use links::numbers::bone;
+use crate::piles::Piles;
 
-// 1 where bone b is in the pile, else 0.
-fn is_in(names: &[u8; 128], n: usize, p: usize, b: usize) -> usize
-    requires { (n ≤ 128) × (b < n) }
-    ensures { (result ≡ (if pile n (heap_of names.now) p b then 1 else 0)) × (result ≤ 1) }
+// Whether bone b is in the pile.
+fn is_in(piles: &Piles, p: usize, b: usize) -> bool
+    requires { b < piles.now.bones }
+    ensures { result ≡ pile_in piles.now p b }
 {
-    if bone(names[b]) == p { 1 } else { 0 }
+    usize::from(piles.names[b]) == p
 }
 
-// The bones of the pile named p, in order; gives their number. Each bone is put in the next place, and stays where it is in the pile.
-pub(crate) fn gather(names: &[u8; 128], n: usize, p: usize, list: &mut [u8; 128]) -> usize
-    requires { (n ≤ 128) × (length list.old ≡ 128) }
-    ensures once { Once list.new result × (result ≤ n) }
-    ensures by_index { (b : ℕ) → listed list.new result b ≡ pile n (heap_of names.now) p b }
-{
-    let mut m = 0;
-    for b in 0..n {
-        list[m] = b as u8;
-        m += is_in(names, n, p, b);
+// The bones of a pile, cut into blocks: those in the first `count` places of the list lead one each, and each of the others, of which the last stands
+// in place size − 1, was merged into its head, a bone that stands before the place where its group starts.
+#[derive(Clone, Copy, PartialEq, Eq)]
+pub(crate) struct Blocks {
+    pub(crate) list: [u8; 128],
+    pub(crate) into: [u8; 128],
+    pub(crate) start: [u8; 128],
+    pub(crate) count: usize,
+    pub(crate) size: usize,
+}
+
+impl Blocks {
+    pub(crate) fn none() -> Self
+        ensures { LongIn result }
+    {
+        Blocks {
+            list: [0; 128],
+            into: [0; 128],
+            start: [0; 128],
+            count: 0,
+            size: 0,
+        }
     }
-    m
+
+    // The bones of the pile named p, in order, each of which leads a block. Each bone is put in the next place, and stays where it is in the pile.
+    pub(crate) fn gather(&mut self, piles: &Piles, p: usize)
+        requires { LongIn self.old }
+        ensures once { Once self.new.list self.new.size × (self.new.size ≤ piles.now.bones) × (self.new.count ≡ self.new.size) × LongIn self.new }
+        ensures by_index { (b : ℕ) → listed self.new.list self.new.size b ≡ pile_in piles.now p b }
+    {
+        let mut m = 0;
+        for b in 0..piles.bones {
+            self.list[m] = b as u8;
+            m += usize::from(is_in(piles, p, b));
+        }
+        self.count = m;
+        self.size = m;
+    }
+
+    // The bones of a pass, the one taken first in the last place, laid out: heads first, then the others behind each other, group by group, with the
+    // head of each and the place where its group starts.
+    pub(crate) fn lay(&mut self, order: &[u8; 128], joins: &[bool; 128], heads: usize)
+        requires count_nonzero { (0 < self.old.count) × Once order.now self.old.count × (heads ≡ unmarked joins.now (self.old.count - 1) + 1) }
+        requires long { LongIn self.old }
+        ensures { LaidOut order.now joins.now heads self.old self.new }
+    {
+        let last = self.count - 1;
+        let mut head = order[last];
+        let mut group = heads;
+        let mut front = 1;
+        let mut back = heads;
+        self.list[0] = head;
+        for i in (0..last).rev() {
+            let u = order[i];
+            if joins[i] {
+                self.list[back] = u;
+                self.into[back] = head;
+                self.start[back] = group as u8;
+                back += 1;
+            } else {
+                self.list[front] = u;
+                front += 1;
+                head = u;
+                group = back;
+            }
+        }
+    }
 }
 
 // The bone in a place is taken: it changes places with the last one that is free.
-pub(crate) fn take(order: &mut [u8; 128], left: usize, at: usize) -> usize
-    requires { (at < left) × (left ≤ 128) × (length order.old ≡ 128) }
-    ensures { (order.new ≡ swapped order.old at (left - 1)) × (result ≡ slice_index order.old at) × (result < 256) }
+pub(crate) fn take(order: &mut [u8; 128], last: usize, at: usize) -> usize
+    requires { (at ≤ last) × (last < 128) }
+    ensures { (order.new ≡ swapped order.old at last) × (result ≡ slice_index order.old at) × (result < 256) }
 {
     let u = order[at];
-    order[at] = order[left - 1];
-    order[left - 1] = u;
-    bone(u)
+    order.swap(at, last);
+    usize::from(u)
 }
 
 // How many bones lead a block after a pass: the one taken first, and each that is not tied to the one taken before it.
-pub(crate) fn count_heads(joins: &[u8; 128], count: usize) -> usize
+pub(crate) fn count_heads(joins: &[bool; 128], count: usize) -> usize
     requires { (0 < count) × (count ≤ 128) }
     ensures { result ≡ unmarked joins.now (count - 1) + 1 }
 {
-    let mut heads = 1;
-    for i in 0..count - 1 {
-        if joins[i] != 1 {
-            heads += 1;
-        }
-    }
-    heads
-}
-
-// The bones of a pass, the one taken first in the last place, laid out: heads first, then the others behind each other, group by group, with the
-// head of each and the place where its group starts.
-pub(crate) fn lay(
-    order: &[u8; 128],
-    joins: &[u8; 128],
-    count: usize,
-    heads: usize,
-    list: &mut [u8; 128],
-    into: &mut [u8; 128],
-    start: &mut [u8; 128],
-)
-    requires count_nonzero { (0 < count) × Once order.now count × (heads ≡ unmarked joins.now (count - 1) + 1) }
-    requires long { Long list.old into.old start.old }
-    ensures { Laid order.now joins.now count heads list.old into.old start.old list.new into.new start.new }
-{
-    let mut head = order[count - 1];
-    let mut group = heads;
-    let mut front = 1;
-    let mut back = heads;
-    list[0] = head;
-    let mut i = count - 1;
-    while 0 < i {
-        i -= 1;
-        let u = order[i];
-        if joins[i] == 1 {
-            list[back] = u;
-            into[back] = head;
-            start[back] = group as u8;
-            back += 1;
-        } else {
-            list[front] = u;
-            front += 1;
-            head = u;
-            group = back;
-        }
-    }
+    1 + joins[..count - 1].iter().filter(|tied| !**tied).count()
 }

@@ -1,16 +1,27 @@
--- `answering::answer` meets its contract: link space and record space are made in locals, and what the reader leaves in them goes on to `after_reading`
--- (proofs/AfterRead).
+-- `answering::answer` meets its contract: link space and record space are made in locals, and what the reader leaves in them goes on as AfterRead has it.
 -- Assumes nothing.
-use Rattle.answering.proofs.Spaces.{links₀, many_links, space₀, wide_space}
-use Rattle.answering.proofs.AfterRead.{reading_held, reading_answers}
+use Rattle.std.proofs.Common.{sym, length-take-le}
+use Rattle.answering.proofs.Spaces.{many_links, wide_space}
+use Rattle.answering.proofs.AfterRead.{read_framed, read_refused, links_held, cuts_held, read_answers}
 use Rattle.answering.proofs.answer.Goals as goal
 
-pub after_reading-requires : goal.after_reading-requires
-after_reading-requires c =
-    rw (c.read-reading.auto.links, c.read-reading.auto.space)
-    (reading_held c.args.input.now links₀ c.read-reading.new.links space₀ c.read-reading.new.space c.read-reading.result many_links wide_space c.read-reading.ensures)
+pub slice_bounds-links-end : goal.slice_bounds-links-end
+slice_bounds-links-end c = rw c.read.auto.links (links_held many_links wide_space c.read.ensures c.in-Ok.is)
 
-pub returns : goal.returns
-returns c =
-    reading_answers c.args.input.now links₀ c.read-reading.new.links space₀ c.read-reading.new.space c.read-reading.result many_links wide_space c.read-reading.ensures
-    c.args.out.now c.after_reading.new.out c.after_reading.result c.after_reading.ensures
+pub slice_bounds-links-end-in-Ok : goal.slice_bounds-links-end-in-Ok
+slice_bounds-links-end-in-Ok c = sym (length-take-le _ c.read.new.links (rw c.read.auto.links (links_held many_links wide_space c.read.ensures c.in-Ok.is)))
+
+pub slice_bounds-space-end : goal.slice_bounds-space-end
+slice_bounds-space-end c = rw (c.size_of.ensures, c.read.auto.space) (cuts_held many_links wide_space c.read.ensures c.in-Ok.is)
+
+pub slice_bounds-given-end : goal.slice_bounds-given-end
+slice_bounds-given-end c = sym (length-take-le _ c.read.new.space (rw (c.size_of.ensures, c.read.auto.space) (cuts_held many_links wide_space c.read.ensures c.in-Ok.is)))
+
+pub write_refused-requires : goal.write_refused-requires
+write_refused-requires c = read_framed many_links wide_space c.read.ensures c.in-Err.is
+
+pub returns-in-Ok : goal.returns-in-Ok
+returns-in-Ok c = read_answers many_links wide_space c.read.ensures c.in-Ok.is c.from.ensures c.from-in-Ok.ensures c.size_of.ensures c.group_read.ensures
+
+pub returns-in-Err : goal.returns-in-Err
+returns-in-Err c = read_refused many_links wide_space c.read.ensures c.in-Err.is c.write_refused.ensures

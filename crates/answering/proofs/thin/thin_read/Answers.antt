@@ -1,16 +1,22 @@
--- `answering::thin::thin_read` meets its contract: room for the links kept is made in a local, and what thinning leaves in it goes on to `after_thinning`
--- (proofs/AfterThin).
+-- `answering::thin::thin_read` meets its contract: room for the links kept is made in a local, and what thinning leaves in it is written as AfterThin has it.
 -- Assumes nothing.
-use Rattle.answering.proofs.Spaces.{links₀, many_links}
-use Rattle.answering.proofs.AfterThin.{thinning_held, thinning_answers}
+use Rattle.std.proofs.Common.{sym, length-take-le}
+use Rattle.answering.proofs.Spaces.{many_links}
+use Rattle.answering.proofs.AfterThin.{kept_held, thinning_framed, thinning_refused, thinning_answers}
 use Rattle.answering.proofs.thin.thin_read.Goals as goal
 
-pub after_thinning-requires : goal.after_thinning-requires
-after_thinning-requires c =
-    rw c.thinning_records-thinned.auto.space
-    (thinning_held c.args.n c.args.k c.args.links.now links₀ c.thinning_records-thinned.new.space c.thinning_records-thinned.result many_links c.thinning_records-thinned.ensures)
+pub slice_bounds-kept-end : goal.slice_bounds-kept-end
+slice_bounds-kept-end c = rw c.thinning.auto.space (kept_held c.args.n c.args.k c.args.links.now many_links c.thinning.ensures c.in-Ok.is)
 
-pub returns : goal.returns
-returns c =
-    thinning_answers c.args.n c.args.k c.args.links.now links₀ c.thinning_records-thinned.new.space c.thinning_records-thinned.result many_links c.thinning_records-thinned.ensures
-    c.args.out.now c.after_thinning.new.out c.after_thinning.result c.after_thinning.ensures
+pub slice_bounds-write_input-end : goal.slice_bounds-write_input-end
+slice_bounds-write_input-end c =
+    sym (length-take-le _ c.thinning.new.space (rw c.thinning.auto.space (kept_held c.args.n c.args.k c.args.links.now many_links c.thinning.ensures c.in-Ok.is)))
+
+pub write_refused-requires : goal.write_refused-requires
+write_refused-requires c = thinning_framed c.args.n c.args.k c.args.links.now many_links c.thinning.ensures c.in-Err.is
+
+pub returns-in-Ok : goal.returns-in-Ok
+returns-in-Ok c = thinning_answers c.args.n c.args.k c.args.links.now many_links c.thinning.ensures c.in-Ok.is c.write_input.ensures
+
+pub returns-in-Err : goal.returns-in-Err
+returns-in-Err c = thinning_refused c.args.n c.args.k c.args.links.now many_links c.thinning.ensures c.in-Err.is c.write_refused.ensures

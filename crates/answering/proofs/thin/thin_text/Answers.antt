@@ -1,16 +1,22 @@
--- `answering::thin::thin_text` meets its contract: link space and record space are made in locals, and the links that the reader leaves go on to
--- `after_reading` (proofs/AfterReadThin).
+-- `answering::thin::thin_text` meets its contract: link space and record space are made in locals, and the links that the reader leaves go on as AfterRead
+-- has it.
 -- Assumes nothing.
-use Rattle.answering.proofs.Spaces.{links₀, many_links, space₀, wide_space}
-use Rattle.answering.proofs.AfterReadThin.{links_held, reading_thins}
+use Rattle.std.proofs.Common.{sym, length-take-le}
+use Rattle.answering.proofs.Spaces.{many_links, wide_space}
+use Rattle.answering.proofs.AfterRead.{read_framed, read_thin_refused, links_held, read_thins}
 use Rattle.answering.proofs.thin.thin_text.Goals as goal
 
-pub after_reading-requires : goal.after_reading-requires
-after_reading-requires c =
-    rw c.read-reading.auto.links
-    (links_held c.args.input.now links₀ c.read-reading.new.links space₀ c.read-reading.new.space c.read-reading.result many_links wide_space c.read-reading.ensures)
+pub slice_bounds-links-end : goal.slice_bounds-links-end
+slice_bounds-links-end c = rw c.read.auto.links (links_held many_links wide_space c.read.ensures c.in-Ok.is)
 
-pub returns : goal.returns
-returns c =
-    reading_thins c.args.input.now links₀ c.read-reading.new.links space₀ c.read-reading.new.space c.read-reading.result many_links wide_space c.read-reading.ensures
-    c.args.out.now c.after_reading.new.out c.after_reading.result c.after_reading.ensures
+pub slice_bounds-links-end-in-Ok : goal.slice_bounds-links-end-in-Ok
+slice_bounds-links-end-in-Ok c = sym (length-take-le _ c.read.new.links (rw c.read.auto.links (links_held many_links wide_space c.read.ensures c.in-Ok.is)))
+
+pub write_refused-requires : goal.write_refused-requires
+write_refused-requires c = read_framed many_links wide_space c.read.ensures c.in-Err.is
+
+pub returns-in-Ok : goal.returns-in-Ok
+returns-in-Ok c = read_thins many_links wide_space c.read.ensures c.in-Ok.is c.from.ensures c.from-in-Ok.ensures c.thin_read.ensures
+
+pub returns-in-Err : goal.returns-in-Err
+returns-in-Err c = read_thin_refused many_links wide_space c.read.ensures c.in-Err.is c.write_refused.ensures

@@ -1,30 +1,17 @@
 -- `cutting::check::checking` meets its contract. Assumes nothing.
-use mathlib.Core.Path.{sym, ◌∙◌}
-use native.Mathlib.Omega.{arith}
-use lib.ListN.{length}
-use Rattle.links.specs.Links.{links_of}
-use Rattle.links.proofs.LinksBytes.{Short, links_of_short}
-use Rattle.links.proofs.LinksRows.{first_accepted}
-use Rattle.cutting.proofs.Answers.{checked_refused}
-use Rattle.cutting.proofs.Carried.{counts_pass, filled_alike, filled_small, checking_core, checking_stop, checked_alike}
+use Rattle.std.proofs.Common.{sym, ◌∙◌}
+use Rattle.cutting.proofs.Answers.{handed_on, checked_refused}
+use Rattle.cutting.proofs.Carried.{checking_stop}
+use Rattle.cutting.proofs.Judged.{filled_with, checking_filled}
 use Rattle.cutting.proofs.check.checking.Goals as goal
 
+pub returns-in_err-fill : goal.returns-in_err-fill
+returns-in_err-fill g c =
+    checked_refused _ _ _ _ _ _ (handed_on c.from_residual.result _ c.from_residual.ensures.1) (checking_stop c.args.n c.args.k _ _ _ _ _ (sym c.fill.ensures.value ∙ c.in_err-fill.was))
+
 pub check_table-requires : goal.check_table-requires
-check_table-requires c =
-    let short : Short (links_of c.args.links.now) = links_of_short _ (λ i. omega (arith, c.type_inv.links i)) in
-    let a = c.args in
-    filled_small a.n a.k _ _ _ c.fill.ensures.value c.in-Accepted.is _ c.fill.ensures.table_after short
+check_table-requires g c = (filled_with c.fill.ensures.value c.in_ok-fill.was c.fill.ensures.table_after c.fill.ensures.tallies).small
 
-pub returns-in-Accepted : goal.returns-in-Accepted
-returns-in-Accepted c =
-    let short : Short (links_of c.args.links.now) = links_of_short _ (λ i. omega (arith, c.type_inv.links i)) in
-    let a = c.args in
-    let accepted = c.in-Accepted.is in
-    let judged = c.fill.ensures.value in
-    let alike = filled_alike a.n a.k _ _ _ judged accepted _ c.fill.ensures.table_after short in
-    checked_alike a.n _ _ alike a.k _ _ _ _ _ _ (first_accepted _ _ (counts_pass a.n a.k _ _ (sym judged ∙ accepted)) ∙ checking_core a.n a.k _ _ a.«record».now (length a.labels.now) _ alike (sym judged ∙ accepted)) c.check_table.ensures
-
-pub returns-in-Refused : goal.returns-in-Refused
-returns-in-Refused c =
-    let a = c.args in
-    checked_refused _ _ _ _ _ _ _ _ (checking_stop a.n a.k _ _ a.«record».now (length a.labels.now) _ _ (sym c.fill.ensures.value ∙ c.in-Refused.is))
+pub returns : goal.returns
+returns g c =
+    checking_filled (filled_with c.fill.ensures.value c.in_ok-fill.was c.fill.ensures.table_after c.fill.ensures.tallies) c.check_table.ensures

@@ -1,9 +1,9 @@
 -- `cutting::firm::entry_of` meets its contract. Assumes nothing.
-use mathlib.Core.Path.{refl}
+use Rattle.std.proofs.Common.{rules, refl}
 use Rattle.weighing.specs.Search.{cut_of}
 use Rattle.cutting.specs.Record.{entry_cut}
 use Rattle.cutting.proofs.firm.entry_of.Goals as goal
 
 pub returns : goal.returns
 unfolding entry_cut cut_of
-returns c = (refl, c.well_formed.0.1.1.1.1.1.0.1.0.1)
+returns c = (refl, search (rules, c.well_formed))

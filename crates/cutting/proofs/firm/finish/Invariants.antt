@@ -5,7 +5,7 @@ use Rattle.cutting.specs.Finish.{Going}
 use Rattle.cutting.proofs.firm.finish.Given as goal
 
 abbrev pub invariant-loop-cuts : goal.invariant-loop-cuts
-invariant-loop-cuts l = (l.table ≡ l.initial.table) × Going l.n (held l.initial.table) l.k l.initial.space l.initial.cuts l.names l.space l.cuts l.from
+invariant-loop-cuts l = (l.table ≡ l.initial.table) × Going l.counts.bones (held l.initial.table) l.counts.k l.initial.space l.initial.cuts l.names l.space l.cuts l.from
 
 abbrev pub decreases-loop-cuts : goal.decreases-loop-cuts
-decreases-loop-cuts l = l.n - l.cuts
+decreases-loop-cuts l = l.counts.bones - l.cuts

@@ -10,14 +10,8 @@ use Rattle.cutting.proofs.Parting.{least_here, least_none}
 use Rattle.cutting.proofs.Renaming.{byte_nought}
 use Rattle.cutting.proofs.heap.least_of.Goals as goal
 
-pub overflow_mul-first_byte : goal.overflow_mul-first_byte
-overflow_mul-first_byte c = omega (arith, c.first_byte.ensures.0)
-
 pub loop-b-init : goal.loop-b-init
-loop-b-init c = (
-  omega (arith, c.lesser-b.ensures),
-  λ x l. byte_nought c.args.side.now x (c.first_byte.ensures.1 (x / 8) (omega (arith, c.lesser-b.ensures))),
-)
+loop-b-init c x l = byte_nought c.args.side.now x (c.first_byte-b.ensures.1 (x / 8) (omega arith))
 
 pub returns-then-in_side : goal.returns-then-in_side
 returns-then-in_side c =
@@ -25,15 +19,15 @@ returns-then-in_side c =
     let head = c.loop-b in
     sym (least_here a.n (side_of a.side.now) head.b (omega arith)
     (holds (sym (on_side a.side.now head.b (omega arith) c.in_side.ensures) ∙ c.if-in_side.true))
-    head.invariant.1)
+    head.invariant)
 
 pub loop-b-preserved : goal.loop-b-preserved
 loop-b-preserved c =
     let a = c.args in
     let head = c.loop-b in
-    (omega arith, below_more _ head.b head.invariant.1 (fails (sym (on_side a.side.now head.b (omega arith) c.in_side.ensures) ∙ c.if-in_side.false)))
+    below_more _ head.b head.invariant (fails (sym (on_side a.side.now head.b (omega arith) c.in_side.ensures) ∙ c.if-in_side.false))
 
 pub returns : goal.returns
 returns c =
     let a = c.args in
-    sym (least_none a.n (side_of a.side.now) (λ x l. c.loop-b.invariant.1 x (omega arith)))
+    sym (least_none a.n (side_of a.side.now) (λ x l. c.loop-b.invariant x (omega arith)))

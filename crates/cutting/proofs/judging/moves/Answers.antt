@@ -1,29 +1,15 @@
--- `cutting::heap::judging::moves` meets its contract. The invariant: no bone below b is on the side. Assumes nothing.
-use Prim.Native.Nat.{zero-le}
-use mathlib.Core.Path.{sym, ◌∙◌}
-use native.Mathlib.Nat.{not-suc-le-zero}
-use native.Mathlib.Omega.{arith}
-use borrow.Author.Count.{below_more}
-use Rattle.meaning.proofs.Tests.{holds, fails}
+-- `cutting::judging::moves` meets its contract: the bones are tried one by one. Assumes nothing.
+use Rattle.std.proofs.Common.{rules, ◌&&◌, ltb, refl, ◌∙◌, arith}
+use Rattle.std.proofs.lemmas.Iterator.{YieldsList-from_range}
+use Rattle.std.proofs.lemmas.Iterator.Search.{any_from_yields_List}
 use Rattle.weighing.specs.Side.{side_of}
-use Rattle.cutting.proofs.Parting.{some_here, some_none}
-use Rattle.weighing.proofs.Sides.{on_side}
+use Rattle.weighing.proofs.Listing.{any_below}
+use Rattle.cutting.proofs.Parting.{some_below}
 use Rattle.cutting.proofs.judging.moves.Goals as goal
 
-pub loop-b-init : goal.loop-b-init
-loop-b-init c = (zero-le, λ x l. absurd (not-suc-le-zero l))
-
-pub returns-then-in_side : goal.returns-then-in_side
-returns-then-in_side c =
-    let side = c.args.side.now in
-    let b = c.loop-b.b in
-    sym (some_here 128 (side_of side) b (omega arith) (holds (sym (on_side side b (omega arith) c.in_side.ensures) ∙ c.if-in_side.true)))
-
-pub loop-b-preserved : goal.loop-b-preserved
-loop-b-preserved c =
-    let side = c.args.side.now in
-    let head = c.loop-b in
-    (omega arith, below_more _ head.b head.invariant.1 (fails (sym (on_side side head.b (omega arith) c.in_side.ensures) ∙ c.if-in_side.false)))
-
 pub returns : goal.returns
-returns c = sym (some_none 128 (side_of c.args.side.now) (λ x l. c.loop-b.invariant.1 x (omega arith)))
+returns c =
+    let on = side_of c.args.side.now in
+    any_from_yields_List (λ b. ltb b 128 && on b) _ _ c.any.result c.any.ensures.ran (YieldsList-from_range 0 128 128 refl (omega arith)) (λ x b q k. search rules)
+    ∙ any_below (λ b. ltb b 128 && on b) 128
+    ∙ some_below 128 on

@@ -1,4 +1,4 @@
-use Prim.Native.Nat.{◌*◌, ◌/◌, ◌-◌, ◌≤◌}
+use Prim.Native.Nat.{◌*◌, ◌/◌, ◌-◌}
 use mathlib.Core.Path.{◌≡◌}
 use lib.ListN.{length, drop}
 use Rattle.meaning.specs.Judge.{first}
@@ -11,10 +11,6 @@ use Rattle.cutting.proofs.judging.replay.Given as goal
 
 abbrev pub invariant-loop-i : goal.invariant-loop-i
 invariant-loop-i l =
-    (l.i ≤ length l.entries / entry_size)
-    × (first (entries_rows l.n (held l.table) l.k (heap_of l.initial.names) 0 (cuts_of l.entries)) ≡ first (entries_rows l.n (held l.table) l.k (heap_of l.names) l.i (cuts_in (length l.entries / entry_size - l.i) (drop (l.i * entry_size) l.entries))))
-    × (left l.n (heap_of l.initial.names) (cuts_of l.entries) ≡ left l.n (heap_of l.names) (cuts_in (length l.entries / entry_size - l.i) (drop (l.i * entry_size) l.entries)))
+    (first (entries_rows l.fn.n (held l.fn.table) l.fn.k (heap_of l.fn.names) 0 (cuts_of l.fn.entries)) ≡ first (entries_rows l.fn.n (held l.fn.table) l.fn.k (heap_of l.names) l.i (cuts_in (length l.fn.entries / entry_size - l.i) (drop (l.i * entry_size) l.fn.entries))))
+    × (left l.fn.n (heap_of l.fn.names) (cuts_of l.fn.entries) ≡ left l.fn.n (heap_of l.names) (cuts_in (length l.fn.entries / entry_size - l.i) (drop (l.i * entry_size) l.fn.entries)))
     × (length l.names ≡ 128)
-
-abbrev pub decreases-loop-i : goal.decreases-loop-i
-decreases-loop-i l = length l.entries / entry_size - l.i

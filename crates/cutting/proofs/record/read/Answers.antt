@@ -11,5 +11,5 @@ returns-then-bytes-i c = sym (at_none c.args.bytes.now c.args.i c.if-bytes-i.tru
 pub returns : goal.returns
 returns c =
     let a = c.args in
-    entry_here a.bytes.now (a.i * entry_size) _ _ c.weight_of-weight.ensures c.side_at-side.ensures
+    entry_here a.bytes.now (a.i * entry_size) _ _ c.from_be_bytes-weight.ensures c.side_at-side.ensures
     ∙ sym (at_whole a.bytes.now a.i c.if-bytes-i.false)

@@ -1,13 +1,10 @@
 -- `cutting::thin::name_groups` meets its contract. Assumes nothing.
-use Prim.Native.Nat.{ℕ, ◌*◌}
-use mathlib.Core.Path.{sym, subst}
-use mathlib.Core.List.{List}
-use native.Mathlib.Omega.{arith}
-use lib.ListN.{replicate, length-replicate}
+use Rattle.std.proofs.Common.{ℕ, ◌*◌, List, replicate, sym, subst, arith}
+use Rattle.std.proofs.lemmas.List.{length-replicate}
 use Rattle.links.specs.Table.{held}
-use Rattle.cutting.proofs.Parting.{heap_start}
 use Rattle.cutting.specs.Record.{entry_size}
 use Rattle.cutting.specs.Finish.{Begun, Ended}
+use Rattle.cutting.proofs.Parting.{heap_start}
 use Rattle.cutting.proofs.Labelling.{none_begun, ended_named}
 use Rattle.cutting.proofs.thin.name_groups.Goals as goal
 
@@ -19,15 +16,14 @@ pub finish-requires : goal.finish-requires
 finish-requires c =
     let a = c.args in
     let w = held a.table.now in record {
-      small = c.requires.1;
-      begun = subst (Begun a.n w a.k (replicate 128 0) space₀) (sym c.empty.ensures)
-          (none_begun a.n w a.k space₀ c.requires.0 (replicate 128 0) (length-replicate {A = ℕ} 128 0) (heap_start 128) (omega (arith, length-replicate {A = ℕ} (127 * entry_size) 0)));
+      small = c.requires;
+      begun = subst (Begun a.counts.bones w a.counts.k (replicate 128 0) space₀) (sym c.empty.ensures)
+          (none_begun a.counts.bones w a.counts.k space₀ (omega arith) (omega arith) (omega arith) (replicate 128 0) (length-replicate {A = ℕ} 128 0) (heap_start 128) (omega (arith, length-replicate {A = ℕ} (127 * entry_size) 0)));
     }
 
 pub returns : goal.returns
 returns c =
     let a = c.args in
-    let w = held a.table.now in
     let f = c.finish in
-    ended_named a.n w a.k space₀ c.requires.0 _ _ _
-    (subst (λ (m : ℕ). Ended a.n w a.k space₀ m f.new.names f.new.space f.result.cuts) c.empty.ensures f.ensures)
+    ended_named a.counts.bones (held a.table.now) a.counts.k space₀ (omega arith) _ _ _
+    (subst (λ (m : ℕ). Ended a.counts.bones (held a.table.now) a.counts.k space₀ m f.new.names f.new.space f.result.cuts) c.empty.ensures f.ensures)

@@ -1,29 +1,14 @@
 -- `write::put_line` meets its contract. Assumes nothing.
-use Rattle.std.proofs.Common.{◌+◌, ◌*◌, length, sym, ◌∙◌, arith, ltb-false, ltb-true}
-use Rattle.frames.specs.Frame.{line}
+use Rattle.std.proofs.Common.{arith}
+use Rattle.std.proofs.lemmas.Grind.{common_steps}
+use Rattle.frames.specs.Placing.{placed, behind}
 use Rattle.frames.proofs.Writes.{length-line}
-use Rattle.frames.proofs.Places.{puts_short, puts_whole}
 use Rattle.frames.proofs.write.put_line.Goals as goal
 
 pub returns-then-too_short : goal.returns-then-too_short
-returns-then-too_short c =
-    let a = c.args in
-    let size = 2 * length a.payload.now + 5 in
-    let long = length-line a.kind a.payload.now in
-    let short = ltb-true (length a.room.now) (a.at + size) (sym c.too_short.ensures ∙ c.if-too_short.true) in
-    puts_short a.room.now a.at (line a.kind a.payload.now) (omega arith)
-
-pub write_line-requires : goal.write_line-requires
-write_line-requires c = ltb-false _ _ (sym c.too_short.ensures ∙ c.if-too_short.false)
+unfolding placed behind
+returns-then-too_short c = record { next = grind (arith, common_steps, length-line); room_left = grind (arith, common_steps, length-line) }
 
 pub returns : goal.returns
-returns c =
-    let a = c.args in
-    let call = c.write_line in
-    let size = 2 * length a.payload.now + 5 in
-    let long = length-line a.kind a.payload.now in
-    let fits = ltb-false (length a.room.now) (a.at + size) (sym c.too_short.ensures ∙ c.if-too_short.false) in
-    puts_whole a.room.now a.at (line a.kind a.payload.now) _ _
-    (omega arith)
-    call.ensures.0
-    call.ensures.1
+unfolding placed behind
+returns c = record { next = grind (arith, common_steps, length-line); room_left = grind (arith, common_steps, length-line) }

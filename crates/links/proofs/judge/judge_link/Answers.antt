@@ -6,17 +6,17 @@ use Rattle.meaning.specs.Judge.{refuse, first}
 use Rattle.links.specs.Links.{link_rows}
 use Rattle.links.proofs.judge.judge_link.Goals as goal
 
-pub returns-then-n-a : goal.returns-then-n-a
+pub returns-then-n-from : goal.returns-then-n-from
 unfolding link_rows refuse first
-returns-then-n-a c = grind (arith, nat_tests)
+returns-then-n-from c = grind (arith, nat_tests)
 
-pub returns-then-a-b : goal.returns-then-a-b
+pub returns-then-l : goal.returns-then-l
 unfolding link_rows refuse first
-returns-then-a-b c = grind (arith, nat_tests)
+returns-then-l c = grind (arith, nat_tests)
 
-pub returns-then-tally-eq0 : goal.returns-then-tally-eq0
+pub returns-then-l-eq0 : goal.returns-then-l-eq0
 unfolding link_rows refuse first
-returns-then-tally-eq0 c = grind (arith, nat_tests)
+returns-then-l-eq0 c = grind (arith, nat_tests)
 
 pub returns : goal.returns
 unfolding link_rows refuse first

@@ -1,41 +1,42 @@
 -- `links::records::keep_links` meets its contract: none is kept at first, a link that is alike is kept behind the others, and all were gone through at the end.
 -- Assumes nothing.
-use Rattle.std.proofs.Common.{◌≡◌, length, get_or, sym, ◌∙◌, ap, zero-le, arith}
-use Rattle.meaning.specs.Room.{fitted}
-use Rattle.meaning.proofs.Room.{fitted_nil}
-use Rattle.links.specs.Records.{no_link, same_label, kept_links}
-use Rattle.links.proofs.RecordsKept.{kept_of, kept_none, kept_all, kept_no, kept-yes, kept_most, written_yes}
+use Rattle.std.proofs.Common.{◌≡◌, ◌<◌, [], ◌∷◌, length, get_or, take, refl, sym, ◌∙◌, ap, arith, length-append, take_all, zero-le}
+use Rattle.links.specs.Records.{front, no_link, same_label, kept_links}
+use Rattle.links.proofs.RecordsKept.{kept_no, kept_one}
+use Rattle.links.proofs.FormFront.{front_nil}
 use Rattle.links.proofs.records.keep_links.Goals as goal
 use Rattle.links.proofs.records.keep_links.Goals.{then-same_label, else-same_label}
 
 pub loop-i-init : goal.loop-i-init
-loop-i-init c =
-    let none = kept_none c.args.labels.now c.args.links.now in
-    (zero-le, ap length none, sym (fitted_nil c.args.out.now 0) ∙ ap (fitted c.args.out.now 0) none)
+unfolding kept_links
+loop-i-init g c = (zero-le, refl, front_nil g.L.LinkForm.links_in g.L.LinkForm.written c.args.out.now g.met.L.LinkForm.written_none)
 
 pub overflow_add-kept : goal.overflow_add-kept
-overflow_add-kept c =
-    omega (arith, c.loop-i.invariant.1, c.loop-i-test.true, kept_most c.args.labels.now c.args.links.now c.loop-i.i c.loop-i.invariant.0)
+overflow_add-kept g c = omega arith
 
 pub loop-i-preserved : goal.loop-i-preserved
-loop-i-preserved c =
-    let i = c.loop-i.invariant in
-    let links = c.args.links.now in
+loop-i-preserved g c =
+    let links = g.L.LinkForm.links_in c.args.links.now in
     let labels = c.args.labels.now in
-    let tested : same_label labels (get_or links c.loop-i.i no_link) ≡ c.same_label.result = rw (← c.link_at-l.ensures) (sym c.same_label.ensures) in
+    let front_of = front g.L.LinkForm.links_in g.L.LinkForm.written c.args.out.now in
+    let most = c.loop-i.invariant.0 in
+    let number = c.loop-i.invariant.1 in
+    let room = c.loop-i.invariant.2 in
+    let inside : c.loop-i.i < length links = omega (arith, c.count-i-end.ensures, c.loop-i-test.true) in
+    let tested : same_label labels (get_or links c.loop-i.i no_link) ≡ c.same_label.result = rw (← c.link-l.ensures) (sym c.same_label.ensures) in
     elim c.if-same_label.branch [
       | then-same_label w ↦
-          let same = tested ∙ w.if-same_label.true in
-          (omega arith, w.kept-is ∙ rw i.1 (kept-yes labels links c.loop-i.i c.loop-i-test.true same), w.out-is ∙ w.store_link.ensures ∙ rw (i.2, i.1, c.link_at-l.ensures) (written_yes labels links c.loop-i.i c.loop-i-test.true c.args.out.now same))
+          let one = kept_one labels links c.loop-i.i inside (tested ∙ w.if-same_label.true) in (
+            omega (arith, most, w.kept-is),
+            omega (arith, number, w.kept-is, ap length one, length-append (kept_links labels (take c.loop-i.i links)) (get_or links c.loop-i.i no_link ∷ [])),
+            w.out-is ∙ w.put.ensures c.args.out.now _ (sym number) room ∙ rw c.link-l.ensures (ap front_of one),
+          )
       | else-same_label w ↦
-          let same = tested ∙ w.if-same_label.false in
-          let stays = kept_no labels links c.loop-i.i c.loop-i-test.true same in
-          (omega arith, w.kept-is ∙ i.1 ∙ ap length stays, w.out-is ∙ i.2 ∙ ap (fitted c.args.out.now 0) stays)
+          let stays = kept_no labels links c.loop-i.i inside (tested ∙ w.if-same_label.false) in
+          (omega (arith, most, w.kept-is), w.kept-is ∙ number ∙ ap length stays, w.out-is ∙ room ∙ ap front_of stays)
     ]
 
 pub returns : goal.returns
-returns c =
-    let i = c.loop-i.invariant in
-    let all : c.loop-i.i ≡ length c.args.links.now = omega (arith, i.0, c.loop-i-test.false) in
-    let kept : kept_of c.args.labels.now c.args.links.now c.loop-i.i ≡ kept_links c.args.labels.now c.args.links.now = rw all (kept_all c.args.labels.now c.args.links.now) in
-    (i.1 ∙ ap length kept, i.2 ∙ ap (fitted c.args.out.now 0) kept)
+returns g c =
+    let all = ap (kept_links c.args.labels.now) (take_all c.loop-i.i (g.L.LinkForm.links_in c.args.links.now) (omega (arith, c.loop-i-test.false, c.count-i-end.ensures))) in
+    (c.loop-i.invariant.1 ∙ ap length all, c.loop-i.invariant.2 ∙ ap (front g.L.LinkForm.links_in g.L.LinkForm.written c.args.out.now) all)

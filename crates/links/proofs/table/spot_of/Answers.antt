@@ -1,6 +1,6 @@
 -- `links::table::spot_of` meets its contract, by the order of the two bones. Assumes nothing.
-use Rattle.links.specs.Table.{spot}
 use Rattle.std.proofs.Common.{arith}
+use Rattle.links.specs.Table.{spot}
 use Rattle.links.proofs.table.spot_of.Goals as goal
 
 pub returns-then-i-j : goal.returns-then-i-j

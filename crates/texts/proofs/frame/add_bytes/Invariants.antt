@@ -1,10 +1,7 @@
-use Prim.Native.Nat.{◌≤◌, ◌-◌}
-use lib.ListN.{drop}
+-- The loop of `frame::add_bytes`: the sum of the pairs passed, where they are all digits, and whether some are not (`Adding`).
+use Rattle.std.proofs.Common.{drop}
 use Rattle.texts.proofs.Walks.{Adding}
 use Rattle.texts.proofs.frame.add_bytes.Given as goal
 
 abbrev pub invariant-loop-i : goal.invariant-loop-i
-invariant-loop-i l = (l.i ≤ l.size) × Adding (drop l.at l.text) l.size l.i l.sum l.bad
-
-abbrev pub decreases-loop-i : goal.decreases-loop-i
-decreases-loop-i l = l.size - l.i
+invariant-loop-i l = Adding (drop l.at l.text) l.size l.i l.sum l.bad

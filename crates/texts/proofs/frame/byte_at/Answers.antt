@@ -1,19 +1,6 @@
--- `frame::byte_at` meets its contract. Assumes nothing.
-use native.Mathlib.Omega.{arith}
-use Rattle.texts.proofs.Lines.{values_at}
+-- `frame::byte_at` meets its contract: digits mean a byte. Assumes nothing.
+use Rattle.texts.proofs.Walks.{byte_told}
 use Rattle.texts.proofs.frame.byte_at.Goals as goal
 
-pub overflow_mul-result : goal.overflow_mul-result
-overflow_mul-result c =
-    let a = c.args in
-    omega (arith, values_at a.text.now a.at a.i c.requires.1)
-
-pub overflow_add-result : goal.overflow_add-result
-overflow_add-result c =
-    let a = c.args in
-    omega (arith, values_at a.text.now a.at a.i c.requires.1)
-
 pub returns : goal.returns
-returns c =
-    let a = c.args in
-    omega (arith, values_at a.text.now a.at a.i c.requires.1)
+returns c = byte_told c.args.text.now c.args.at c.args.i c.pair.result _ c.pair.ensures c.unwrap_or.ensures c.requires.1

@@ -1,24 +1,19 @@
--- `input::judge_later` meets its contract. Assumes nothing.
-use native.Mathlib.Omega.{arith}
-use Rattle.texts.proofs.WritesRows.{later_uneven, later_many, later_short, later_fine}
+-- `input::judge_later` meets its contract: at each return the tests that led there are those of the rows. Assumes nothing.
+use Rattle.std.proofs.Common.{arith}
+use Rattle.std.proofs.lemmas.Bool.Decides.{nat_tests}
+use Rattle.meaning.specs.Judge.{refuse, first}
+use Rattle.cutting.specs.RecordRows.{record_row}
+use Rattle.texts.specs.Steps.{later_rows}
 use Rattle.texts.proofs.input.judge_later.Goals as goal
 
 pub returns-then-bytes-ne0 : goal.returns-then-bytes-ne0
-returns-then-bytes-ne0 c =
-    let a = c.args in
-    later_uneven a.n a.count a.bytes.now a.room c.if-bytes-ne0.true
-
-pub returns-then-n-cuts : goal.returns-then-n-cuts
-returns-then-n-cuts c =
-    let a = c.args in
-    later_many a.n a.count a.bytes.now a.room (omega arith) c.if-n-cuts.true
+unfolding later_rows record_row refuse first
+returns-then-bytes-ne0 c = grind (arith, nat_tests)
 
 pub returns-then-room-input_size : goal.returns-then-room-input_size
-returns-then-room-input_size c =
-    let a = c.args in
-    later_short a.n a.count a.bytes.now a.room (omega arith) (omega arith) (omega arith)
+unfolding later_rows record_row refuse first
+returns-then-room-input_size c = grind (arith, nat_tests)
 
 pub returns : goal.returns
-returns c =
-    let a = c.args in
-    later_fine a.n a.count a.bytes.now a.room (omega arith) (omega arith) (omega arith)
+unfolding later_rows record_row refuse first
+returns c = grind (arith, nat_tests)

@@ -1,24 +1,16 @@
 -- `input::put_links` meets its contract: each link's line is put behind those before it. Assumes nothing.
-use Prim.Native.Nat.{ℕ, ◌+◌, ◌*◌, zero-le}
-use mathlib.Core.Path.{◌∙◌, ap₂}
-use mathlib.Core.List.{List}
-use native.Mathlib.Omega.{arith}
-use Rattle.meaning.specs.declared.Link.{Link}
-use Rattle.meaning.specs.Room.{over}
-use Rattle.frames.specs.Frame.{line_size}
-use Rattle.texts.specs.Kinds.{link_line}
-use Rattle.texts.proofs.WritesLinks.{linked_none, linked_more}
+use Rattle.std.proofs.Common.{◌≡◌, length, ap, ◌∙◌, arith}
+use Rattle.texts.proofs.WritesLinks.{linked, linked_none, linked_more, linked_all}
 use Rattle.texts.proofs.input.put_links.Goals as goal
 
 pub loop-i-init : goal.loop-i-init
-loop-i-init c = (zero-le, linked_none c.args.text.now c.args.links.now)
+loop-i-init c = linked_none c.args.text.now c.args.links.now
 
 pub loop-i-preserved : goal.loop-i-preserved
 loop-i-preserved c =
-    let a = c.args in
-    let i = c.loop-i.i in (
-      omega arith,
-      c.put_record.ensures
-          ∙ ap₂ (λ (room : List ℕ) (l : Link). over room (line_size 1 + line_size 2 * i) (link_line l)) c.loop-i.invariant.1 c.link_at.ensures
-          ∙ linked_more a.text.now a.links.now a.count c.requires.0 c.requires.1 i (omega arith),
-    )
+    rw (c.put_record.ensures, c.loop-i.invariant) (linked_more c.args.text.now c.args.links.now c.requires c.loop-i.i c.loop-i-test.true)
+
+pub returns : goal.returns
+returns c =
+    let all : c.loop-i.i ≡ length c.args.links.now = omega arith in
+    c.loop-i.invariant ∙ ap (linked c.args.text.now c.args.links.now) all ∙ linked_all c.args.text.now c.args.links.now

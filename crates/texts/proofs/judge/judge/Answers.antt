@@ -1,43 +1,48 @@
--- `judge::judge` meets its contract. Assumes nothing.
-use mathlib.Core.Path.{sym, ◌∙◌}
-use native.Mathlib.Omega.{arith}
-use Rattle.texts.proofs.ReadsRows.{by_15, by-line, by_3, by_9, by_14, by_8, by_none}
+-- `judge::judge` meets its contract: behind the lines, the tests that led to a return are those of the rows. The answers name no test, so that a wrong order
+-- of the rows is refused for what it answers. Assumes nothing.
+use Rattle.std.proofs.Common.{sym, ◌∙◌, arith}
+use Rattle.std.proofs.lemmas.Bool.Decides.{nat_tests}
+use Rattle.std.proofs.lemmas.Result.{err_from_is_err_and}
+use Rattle.meaning.specs.Judge.{answered, refuse, first}
+use Rattle.texts.proofs.Rows.{answered_refused, told_refused}
+use Rattle.texts.proofs.ReadsRows.{counts, long-text, by-line, found}
 use Rattle.texts.proofs.judge.judge.Goals as goal
 
 pub returns-then-text-gt65536 : goal.returns-then-text-gt65536
-returns-then-text-gt65536 c = let a = c.args in by_15 a.text.now a.lent a.room (omega arith)
+returns-then-text-gt65536 c = rw c.at.ensures (sym (answered_refused _ (long-text c.args.text.now c.args.lent c.args.room (omega arith))))
 
-pub returns-then-links-gt4096 : goal.returns-then-links-gt4096
-returns-then-links-gt4096 c =
-    let a = c.args in
-    let e = sym c.in-Got.is ∙ c.judge_lines-found.ensures in
-    by_3 a.text.now a.lent a.room (omega arith) _ _ _ _ e (omega arith)
+pub returns-in_err-found : goal.returns-in_err-found
+returns-in_err-found c =
+    let p = err_from_is_err_and c.from_residual.result c.from_residual.ensures.1 in
+    let refused = told_refused _ _ _ (sym c.in_err-found.was ∙ c.judge_lines.ensures) in
+    rw (p.1, p.2) (sym (answered_refused _ (by-line c.args.text.now c.args.lent c.args.room (omega arith) _ refused)))
 
-pub returns-then-cuts-gt127 : goal.returns-then-cuts-gt127
-returns-then-cuts-gt127 c =
-    let a = c.args in
-    let e = sym c.in-Got.is ∙ c.judge_lines-found.ensures in
-    by_9 a.text.now a.lent a.room (omega arith) _ _ _ _ e (omega arith) (omega arith)
+pub returns-then-found-gt4096 : goal.returns-then-found-gt4096
+unfolding counts refuse first answered
+returns-then-found-gt4096 c =
+    let f = found c.args.text.now c.args.lent c.args.room c.in_ok-found.found (omega arith) (sym c.in_ok-found.was ∙ c.judge_lines.ensures) in
+    grind (arith, nat_tests, f.rows)
 
-pub returns-then-lent-links : goal.returns-then-lent-links
-returns-then-lent-links c =
-    let a = c.args in
-    let e = sym c.in-Got.is ∙ c.judge_lines-found.ensures in
-    by_14 a.text.now a.lent a.room (omega arith) _ _ _ _ e (omega arith) (omega arith) (omega arith)
+pub returns-then-found-gt127 : goal.returns-then-found-gt127
+unfolding counts refuse first answered
+returns-then-found-gt127 c =
+    let f = found c.args.text.now c.args.lent c.args.room c.in_ok-found.found (omega arith) (sym c.in_ok-found.was ∙ c.judge_lines.ensures) in
+    grind (arith, nat_tests, f.rows)
 
-pub returns-then-room-cuts : goal.returns-then-room-cuts
-returns-then-room-cuts c =
-    let a = c.args in
-    let e = sym c.in-Got.is ∙ c.judge_lines-found.ensures in
-    by_8 a.text.now a.lent a.room (omega arith) _ _ _ _ e (omega arith) (omega arith) (omega arith) (omega arith)
+pub returns-then-lent-found : goal.returns-then-lent-found
+unfolding counts refuse first answered
+returns-then-lent-found c =
+    let f = found c.args.text.now c.args.lent c.args.room c.in_ok-found.found (omega arith) (sym c.in_ok-found.was ∙ c.judge_lines.ensures) in
+    grind (arith, nat_tests, f.rows)
 
-pub returns-in-Refused : goal.returns-in-Refused
-returns-in-Refused c =
-    let a = c.args in
-    by-line a.text.now a.lent a.room _ _ (omega arith) (sym c.in-Refused.is ∙ c.judge_lines-found.ensures)
+pub returns-then-room-found : goal.returns-then-room-found
+unfolding counts refuse first answered
+returns-then-room-found c =
+    let f = found c.args.text.now c.args.lent c.args.room c.in_ok-found.found (omega arith) (sym c.in_ok-found.was ∙ c.judge_lines.ensures) in
+    grind (arith, nat_tests, f.rows)
 
-pub returns-else-room-cuts : goal.returns-else-room-cuts
-returns-else-room-cuts c =
-    let a = c.args in
-    let e = sym c.in-Got.is ∙ c.judge_lines-found.ensures in
-    by_none a.text.now a.lent a.room (omega arith) _ _ _ _ e (omega arith) (omega arith) (omega arith) (omega arith)
+pub returns : goal.returns
+unfolding counts refuse first answered
+returns c =
+    let f = found c.args.text.now c.args.lent c.args.room c.in_ok-found.found (omega arith) (sym c.in_ok-found.was ∙ c.judge_lines.ensures) in
+    grind (arith, nat_tests, f.rows)

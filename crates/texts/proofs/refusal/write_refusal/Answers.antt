@@ -1,25 +1,23 @@
 -- `refusal::write_refusal` meets its contract. Assumes nothing.
-use Prim.Native.Nat.{◌≤◌}
-use mathlib.Core.Path.{sym}
-use native.Mathlib.Omega.{arith}
-use lib.ListN.{length}
-use Rattle.texts.specs.Kinds.{refusal_line}
-use Rattle.texts.proofs.WritesLines.{length_refusal}
-use Rattle.frames.proofs.Places.{puts_fit}
+use Rattle.std.proofs.Common.{◌≤◌, length, sym, arith}
 use Rattle.frames.specs.Frame.{line_size}
-use Rattle.texts.proofs.Fronts.{writes_short, writes_whole}
+use Rattle.frames.proofs.Places.{puts_fit}
+use Rattle.texts.specs.Kinds.{refusal_line}
+use Rattle.texts.proofs.Fronts.{writes_refused, writes_done, too_short, long_enough}
+use Rattle.texts.proofs.WritesLines.{length_refusal}
 use Rattle.texts.proofs.refusal.write_refusal.Goals as goal
 
 pub returns-then-text-lt-REFUSAL_LINE : goal.returns-then-text-lt-REFUSAL_LINE
 returns-then-text-lt-REFUSAL_LINE c =
-    writes_short (refusal_line c.args.number c.args.place) c.args.text.now
-    (omega (arith, length_refusal c.args.number c.args.place, c.if-text-lt-REFUSAL_LINE.true))
+    let line = refusal_line c.args.number c.args.place in
+    writes_refused line c.args.text.now
+    (rw c.at.ensures (too_short line (length c.args.text.now) (omega (arith, length_refusal c.args.number c.args.place, c.if-text-lt-REFUSAL_LINE.true))))
 
 pub returns : goal.returns
 returns c =
-    let call = c.put_refusal in
-    let a = c.args in
-    let long = length_refusal a.number a.place in
-    let fits : length (refusal_line a.number a.place) ≤ length a.text.now = omega (arith, c.if-text-lt-REFUSAL_LINE.false) in
-    let put = puts_fit a.text.now 0 (refusal_line a.number a.place) _ _ (omega arith) call.ensures in
-    writes_whole (refusal_line a.number a.place) a.text.now call.new.room (line_size 7) fits (sym long) put.1
+    let line = refusal_line c.args.number c.args.place in
+    let text = c.args.text.now in
+    let long = length_refusal c.args.number c.args.place in
+    let fits : length line ≤ length text = omega (arith, c.if-text-lt-REFUSAL_LINE.false) in
+    let put = puts_fit text 0 line _ _ (omega arith) c.put_refusal.ensures in
+    writes_done line text c.put_refusal.new.room (line_size 7) (long_enough line (length text) fits) (sym long) put.1

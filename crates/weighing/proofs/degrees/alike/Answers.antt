@@ -1,14 +1,11 @@
--- `weighing::degrees::alike` meets its contract, by the test.
+-- `weighing::degrees::alike` meets its contract: a bone before another is another one.
 -- Assumes nothing.
-use Rattle.std.proofs.Common.{◌≡◌, arith, eq-eqb, ne_eqb}
+use Rattle.std.proofs.Common.{arith}
+use Rattle.std.proofs.lemmas.Bool.Decides.{nat_tests}
 use Rattle.weighing.specs.Side.{heap_of}
 use Rattle.weighing.specs.Degrees.{mate, others}
 use Rattle.weighing.proofs.degrees.alike.Goals as goal
 
-pub returns-then-names-j : goal.returns-then-names-j
+pub returns : goal.returns
 unfolding heap_of mate others
-returns-then-names-j c = let off : c.args.j ≡ c.args.i → ⊥ = λ e. omega arith in rw (eq-eqb _ _ c.if-names-j.true, ne_eqb _ _ off)
-
-pub returns-else-names-j : goal.returns-else-names-j
-unfolding heap_of mate others
-returns-else-names-j c = rw (ne_eqb _ _ c.if-names-j.false)
+returns c = grind (arith, nat_tests)

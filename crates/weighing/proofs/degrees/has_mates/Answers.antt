@@ -1,26 +1,21 @@
 -- `weighing::degrees::has_mates` meets its contract: by the three tests on the way.
 -- Assumes nothing.
-use Rattle.std.proofs.Common.{◌∙◌, le-ltb, lt-ltb, eq-eqb, ne_eqb}
+use Rattle.std.proofs.Common.{arith}
+use Rattle.std.proofs.lemmas.Bool.Decides.{nat_tests}
 use Rattle.meaning.specs.Heap.{pile, stands}
 use Rattle.weighing.specs.Side.{heap_of}
 use Rattle.weighing.specs.Degrees.{joined}
 use Rattle.weighing.proofs.degrees.has_mates.Goals as goal
+use Rattle.weighing.proofs.degrees.has_mates.Goals.{then-p-piles, else-p-piles}
 
-pub returns-then-bone-p : goal.returns-then-bone-p
+pub returns-then-piles-u : goal.returns-then-piles-u
 unfolding heap_of joined stands pile
-returns-then-bone-p c =
-    c.another.ensures
-    ∙ rw (lt-ltb _ _ c.if-u-n.true, ← c.bone-p.ensures.0, lt-ltb _ _ c.if-p-n.true, ← c.bone.ensures.0, eq-eqb _ _ c.if-bone-p.true)
+returns-then-piles-u c = grind (arith, nat_tests)
 
-pub returns-else-bone-p : goal.returns-else-bone-p
+pub returns-then-from-p : goal.returns-then-from-p
 unfolding heap_of joined stands pile
-returns-else-bone-p c =
-    rw (lt-ltb _ _ c.if-u-n.true, ← c.bone-p.ensures.0, lt-ltb _ _ c.if-p-n.true, ← c.bone.ensures.0, ne_eqb _ _ c.if-bone-p.false)
+returns-then-from-p c = elim c.if-p-piles.branch [ then-p-piles w ↦ grind (arith, nat_tests) | else-p-piles w ↦ grind (arith, nat_tests) ]
 
-pub returns-else-p-n : goal.returns-else-p-n
+pub returns-else-from-p : goal.returns-else-from-p
 unfolding heap_of joined stands pile
-returns-else-p-n c = rw (lt-ltb _ _ c.if-u-n.true, ← c.bone-p.ensures.0, le-ltb _ _ c.if-p-n.false)
-
-pub returns-else-u-n : goal.returns-else-u-n
-unfolding heap_of joined stands pile
-returns-else-u-n c = rw (le-ltb _ _ c.if-u-n.false)
+returns-else-from-p c = elim c.if-p-piles.branch [ then-p-piles w ↦ grind (arith, nat_tests) | else-p-piles w ↦ grind (arith, nat_tests) ]

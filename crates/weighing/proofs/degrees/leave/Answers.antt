@@ -6,4 +6,7 @@ use Rattle.weighing.proofs.degrees.leave.Goals as goal
 
 pub returns-then-size : goal.returns-then-size
 unfolding lost
-returns-then-size c = λ notes. less_same (λ b. omega arith) (c.leave_from.ensures notes)
+returns-then-size c = λ notes. rw (← c.new-piles.ensures.0, ← c.new-piles.ensures.1) (less_same (λ b. omega arith) (c.leave_from.ensures notes))
+
+pub returns-else-size : goal.returns-else-size
+returns-else-size c = rw (← c.new-piles.ensures.0, ← c.new-piles.ensures.1) c.leave_from-else-size.ensures

@@ -6,34 +6,31 @@ use Rattle.meaning.specs.Heap.{pile}
 use Rattle.links.proofs.TableHeld.{held_symmetric}
 use Rattle.links.specs.Table.{held}
 use Rattle.weighing.specs.Side.{heap_of}
+use Rattle.weighing.specs.Piles.{heap}
 use Rattle.weighing.specs.Degrees.{toward, lost}
 use Rattle.weighing.proofs.Listing.{cond_none}
 use Rattle.weighing.proofs.Noting.{less_same, less_none, less_then, lost_next, lost_by}
 use Rattle.weighing.proofs.degrees.leave_from.Goals as goal
-use Rattle.weighing.proofs.degrees.leave_from.Goals.{then-names-b, else-names-b}
+use Rattle.weighing.proofs.degrees.leave_from.Goals.{then-piles-b, else-piles-b}
 
 pub loop-b-init : goal.loop-b-init
 unfolding heap_of lost_by lost pile toward sum
-loop-b-init c = (zero-le, λ notes. less_same (λ b. rw (le-ltb b 0 zero-le, cond_none)) (less_none notes))
+loop-b-init c = λ notes. less_same (λ b. rw (le-ltb b 0 zero-le, cond_none)) (less_none notes)
 
 pub loop-b-preserved : goal.loop-b-preserved
 unfolding heap_of lost_by lost pile toward sum
 loop-b-preserved c =
     let a = c.args in
     let l = c.loop-b in
-    let step = lost_next c.at_most_128-bones.result (held a.table.now) (heap_of a.names.now) a.x a.y (held_symmetric a.table.now) l.b in (
-      omega arith,
-      λ notes. let so = l.invariant.1 notes in
-          elim c.if-names-b.branch [
-            | then-names-b w ↦ rw w.degrees-is (less_same (λ b. rw (eq-eqb _ _ w.if-names-b.true) at (step b)) (less_then so (w.part.ensures so.notes)))
-            | else-names-b w ↦ rw w.degrees-is (less_same (λ b. omega (arith, rw (ne_eqb _ _ w.if-names-b.false) at (step b))) so)
-          ],
-    )
+    let step = lost_next a.piles.now.bones (held a.table.now) (heap a.piles.now) a.x a.y (held_symmetric a.table.now) l.b in
+    λ notes. let so = l.invariant notes in
+    elim c.if-piles-b.branch [
+      | then-piles-b w ↦ rw w.degrees-is (less_same (λ b. rw (eq-eqb _ _ w.if-piles-b.true) at (step b)) (less_then so (w.part.ensures so.notes)))
+      | else-piles-b w ↦ rw w.degrees-is (less_same (λ b. omega (arith, rw (ne_eqb _ _ w.if-piles-b.false) at (step b))) so)
+    ]
 
 pub returns : goal.returns
 unfolding heap_of lost_by lost pile toward sum
 returns c =
-    let l = c.loop-b in
-    let n = c.at_most_128-bones in
-    let done : l.b ≡ n.result = omega arith in
-    rw (← n.ensures.0) (rw done at l.invariant.1)
+    let done : c.loop-b.b ≡ c.args.piles.now.bones = omega arith in
+    rw done at c.loop-b.invariant

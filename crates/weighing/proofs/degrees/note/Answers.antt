@@ -11,7 +11,7 @@ use Rattle.weighing.proofs.degrees.note.Goals as goal
 
 pub loop-j-init : goal.loop-j-init
 unfolding toward sum
-loop-j-init c = (zero-le, c.requires.1.notes.long, omega arith, λ b. rw (le-ltb b 0 zero-le))
+loop-j-init c = (c.requires.1.notes.long, omega arith, λ b. rw (le-ltb b 0 zero-le))
 
 pub loop-j-preserved : goal.loop-j-preserved
 unfolding toward sum
@@ -19,10 +19,9 @@ loop-j-preserved c =
     let a = c.args in
     let l = c.loop-j in
     let tally = c.earlier-tally.ensures in (
-      omega arith,
-      length-set l.degrees l.j c.wrapping_add_u32.result ∙ l.invariant.1,
-      omega (arith, tally, l.invariant.2, c.wrapping_add_u32-own.ensures.value, toward_next l.j (held a.table.now) (mate (heap_of a.names.now) a.i) a.i),
-      store_next _ (λ b. get_or a.degrees.now b 0) l.degrees l.j c.wrapping_add_u32.result (omega arith) (λ e. omega (arith, e, tally, c.wrapping_add_u32.ensures.value)) l.invariant.3,
+      length-set l.degrees l.j _ ∙ l.invariant.0,
+      omega (arith, tally, l.invariant.1, toward_next l.j (held a.table.now) (mate (heap_of a.names.now) a.i) a.i),
+      store_next _ (λ b. get_or a.degrees.now b 0) l.degrees l.j _ (omega arith) (λ e. omega (arith, e, tally)) l.invariant.2,
     )
 
 pub returns : goal.returns
@@ -30,6 +29,6 @@ unfolding toward sum
 returns c =
     let l = c.loop-j in
     let done : l.j ≡ c.args.i = omega arith in
-    noted_next (held c.args.table.now) (held_symmetric c.args.table.now) (heap_of c.args.names.now) c.args.i c.requires.0 l.degrees l.own c.requires.1 l.invariant.1
+    noted_next (held c.args.table.now) (held_symmetric c.args.table.now) (heap_of c.args.names.now) c.args.i c.requires.0 l.degrees l.own c.requires.1 l.invariant.0
+    (simp done at l.invariant.1)
     (simp done at l.invariant.2)
-    (simp done at l.invariant.3)

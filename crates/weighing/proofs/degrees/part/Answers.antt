@@ -8,5 +8,4 @@ pub returns : goal.returns
 unfolding parting
 returns c =
     let t = c.take_out-own in
-    let s = c.wrapping_sub_u32 in
-    λ notes. less_at c.args.b _ s.result (omega arith) (omega (arith, s.type_inv)) (omega (arith, s.ensures.value, t.ensures.value)) (t.ensures.loses notes)
+    λ notes. less_at c.args.b _ _ (omega arith) (omega arith) (omega (arith, t.ensures.value)) (t.ensures.loses notes)

@@ -3,22 +3,17 @@
 use Rattle.std.proofs.Common.{◌≡◌, cond, sym, refl, zero-le, arith, le-ltb}
 use Rattle.meaning.specs.Count.{sum}
 use Rattle.links.specs.Table.{held}
-use Rattle.weighing.specs.Side.{heap_of}
+use Rattle.weighing.specs.Piles.{heap}
 use Rattle.weighing.specs.Degrees.{toward, others, share}
 use Rattle.weighing.proofs.Noting.{toward_next, less_same, less_none, less_at, upto_next}
 use Rattle.weighing.proofs.degrees.take_out.Goals as goal
 
 pub loop-c-init : goal.loop-c-init
 unfolding toward sum share
-loop-c-init c = (zero-le, refl, zero-le, λ notes. less_same (λ b. rw (le-ltb b 0 zero-le)) (less_none notes))
+loop-c-init c = (refl, zero-le, λ notes. less_same (λ b. rw (le-ltb b 0 zero-le)) (less_none notes))
 
 pub overflow_add-total : goal.overflow_add-total
-unfolding toward sum share
 overflow_add-total c = omega (arith, c.tally_with-tally.ensures.1)
-
-pub overflow_cast-tally : goal.overflow_cast-tally
-unfolding toward sum share
-overflow_cast-tally c = omega (arith, c.tally_with-tally.ensures.1)
 
 pub loop-c-preserved : goal.loop-c-preserved
 unfolding toward sum share
@@ -27,20 +22,19 @@ loop-c-preserved c =
     let l = c.loop-c in
     let a = c.args in
     let w = held a.table.now in
-    let S = others (heap_of a.names.now) a.name a.b in (
-      omega arith,
-      omega (arith, l.invariant.1, x.ensures.0, toward_next l.c w S a.b),
+    let S = others (heap a.piles.now) a.name a.b in (
+      omega (arith, l.invariant.0, x.ensures.0, toward_next l.c w S a.b),
       omega (arith, x.ensures.1),
       λ notes. less_same (λ b. sym (upto_next (λ b. cond (S b) (w a.b b) 0) l.c b))
-          (less_at l.c _ c.wrapping_sub_u32.result (omega arith) (omega (arith, c.wrapping_sub_u32.type_inv)) (omega (arith, x.ensures.0, x.ensures.1, c.wrapping_sub_u32.ensures.value)) (l.invariant.3 notes)),
+          (less_at l.c _ _ (omega arith) (omega arith) (omega (arith, x.ensures.0, x.ensures.1)) (l.invariant.2 notes)),
     )
 
 pub returns : goal.returns
 unfolding toward sum share
 returns c =
     let l = c.loop-c in
-    let done : l.c ≡ c.args.n = omega arith in
+    let done : l.c ≡ c.args.piles.now.bones = omega arith in
     record {
-      value = rw done at l.invariant.1;
-      loses = rw done at l.invariant.3;
+      value = rw done at l.invariant.0;
+      loses = rw done at l.invariant.2;
     }

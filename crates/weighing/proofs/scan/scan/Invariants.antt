@@ -4,6 +4,3 @@ use Rattle.weighing.proofs.scan.scan.Given as goal
 
 abbrev pub invariant-loop-left : goal.invariant-loop-left
 invariant-loop-left l = Scan (held l.table) l.k l.initial.order l.order l.joins l.attach l.count l.left l.at l.top
-
-abbrev pub decreases-loop-left : goal.decreases-loop-left
-decreases-loop-left l = l.left
