@@ -1,4 +1,4 @@
--- A refusal of the reader, of grouping or of thinning fits the frame that tells it: its place is below 65,536.
+-- A refusal of the reader, of grouping or of thinning fits the frame that tells it: its number is a byte, and its place is below 65,536.
 --     Fits             what a judgement is, if it refuses
 --     reader_fits, grouping_fits, thinning_fits     the first refusal of each
 -- Assumes nothing.
@@ -13,7 +13,8 @@ use borrow.Author.Tests.{ltb-false}
 use Rattle.meaning.specs.declared.Link.{Link}
 use Rattle.meaning.specs.declared.Row.{Row}
 use Rattle.std.proofs.Common.{Ok, Err}
-use Rattle.meaning.specs.Judge.{Judged, Accepted, refuse, first}
+use Rattle.std.proofs.Common.{rules}
+use Rattle.meaning.specs.Judge.{Judged, Accepted, refuse, first, number_of}
 use Rattle.meaning.specs.Tally.{Tally, pair_tally}
 use Rattle.meaning.specs.Heap.{Heap, Cut, start, parted}
 use Rattle.links.specs.Links.{link_rows, links_rows, count_rows, table_rows}
@@ -34,10 +35,15 @@ unfoldable pub Fits : Judged → Type 0
 Fits (Ok done) = Unit {0}
 Fits (Err refusal) = Framed refusal
 
+-- each number of the refusal table is a byte
+number_is_byte : (row : Row) → number_of row < 256
+unfolding number_of
+number_is_byte row = search rules
+
 -- one row in front of others, which are looked at where it accepts
 row_fits : (b : Bool) (row : Row) (place : ℕ) (js : List Judged) → place < 65536 → (b ≡ false → Fits (first js)) → Fits (first (refuse b row place ∷ js))
 unfolding Fits refuse first
-row_fits true row place js small rest = small
+row_fits true row place js small rest = (number_is_byte row, small)
 row_fits false row place js small rest = rest refl
 
 pub both_fit : (js ks : List Judged) → Fits (first js) → (first js ≡ Accepted → Fits (first ks)) → Fits (first (js ++ ks))
@@ -129,7 +135,7 @@ lines_most (c ∷ cs) = go (eqb c 10) (lines_most cs)
 -- an empty first line is refused at once
 empty_line : (ls : List Line) → Fits (first (line_rows Opening 0 (record { characters = []; ended = true } ∷ ls)))
 unfolding line_rows refuse first well_formed is_hex is_kind bytes_of Fits
-empty_line ls = lit< tt
+empty_line ls = (number_is_byte _, lit< tt)
 
 -- any other first line leaves fewer lines than characters
 text_fits : (text : List ℕ) → length text ≤ 65536 → Fits (first (line_rows Opening 0 (lines_of text)))

@@ -52,17 +52,12 @@ labels_letters (suc n) h few low =
     letters_append (label_lines n h) (label_line n (h n)) (labels_letters n h (omega arith) (λ b l. low b (omega arith)))
     (line_letters 4 (n ∷ h n ∷ []) (bytes_cons 4 (n ∷ h n ∷ []) (omega arith) (bytes_cons n (h n ∷ []) (omega arith) (bytes_cons (h n) [] (low n (le_refl (suc n))) (λ i. omega arith)))))
 
--- each number of the refusal table is a byte
-number_is_byte : (row : Row) → number_of row < 256
-unfolding number_of
-number_is_byte row = search rules
-
 refusal_letters : (refusal : Refusal) → Framed refusal → T (lettered (refusal_line (number_of refusal.row) refusal.place))
 unfolding refusal_line
 refusal_letters refusal fits =
     let number = number_of refusal.row in
     let place = two refusal.place in
-    line_letters 7 (number ∷ place) (bytes_cons 7 (number ∷ place) (omega arith) (bytes_cons number place (number_is_byte refusal.row) (two_bytes refusal.place fits)))
+    line_letters 7 (number ∷ place) (bytes_cons 7 (number ∷ place) (omega arith) (bytes_cons number place fits.0 (two_bytes refusal.place fits.1)))
 
 module _ (n k : ℕ) (links : List Link) (given : List ℕ) where
   -- a result text

@@ -1,5 +1,6 @@
 // What each program does, in one function from bytes to bytes. Here that of `bones`: an input text is read, its bones are grouped, and the result text is
 // written; or the first refusal's frame, alone.
+// A cast here loses nothing, as is proved; std has no `From` between these widths, and `try_from` would have a case that never comes.
 #![tactic(auto)]
 
 pub mod thin;

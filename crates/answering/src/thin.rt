@@ -1,5 +1,6 @@
 // What the program `thin` does: an input text is read, its links are thinned, and an input text is written again of those that stay inside groups, without
 // cuts; or the first refusal's frame, alone.
+// A cast here loses nothing, as is proved; std has no `From` between these widths, and `try_from` would have a case that never comes.
 ghost use Rattle.meaning.specs.Judge.{first};
 ghost use Rattle.answering.specs.ThinPrints.{thinned_rows, ThinAnswers, ThinsText};
 
@@ -26,7 +27,8 @@ fn thin_read(n: u64, k: u64, links: &[Link], out: &mut [u8]) -> Result<u32, Refu
 }
 
 // Thins an input text: what the program prints for it, at the front of the space lent, and how many bytes that is. Where the space is too short,
-// refusal 20, and it stays as it was. Cuts that were given are read, and not looked at.
+// refusal 20, and it stays as it was. Cuts that were given are read, and not looked at. It is written out beside `answer`: one function of both would take a
+// closure over n, k, links and record, and save five lines. The rooms are fixed, since nothing here allocates; what stands in them goes on as a slice.
 pub fn thin_text(input: &[u8], out: &mut [u8]) -> Result<u32, Refusal>
     ensures { ThinsText input.now out.old out.new result }
 {

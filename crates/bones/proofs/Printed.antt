@@ -10,4 +10,4 @@ use Rattle.answering.proofs.Theorems.{room_enough, count_fits}
 pub all_printed : (input out out' : List ℕ) (r : Result ℕ Refusal) (a : Answering input out out' r) → result_size 127 128 ≤ length out → shown r (length out) ≡ length a.text
 all_printed input out out' r a wide =
     let answered = room_enough input out out' r a wide in
-    ap (λ (s : Result ℕ Refusal). shown s (length out)) answered ∙ shown_all (length a.text) (length out) (count_fits input out out' r a wide (length a.text) answered)
+    ap (λ (s : Result ℕ Refusal). shown s (length out)) answered ∙ shown_all Refusal (length a.text) (length out) (count_fits input out out' r a wide (length a.text) answered)

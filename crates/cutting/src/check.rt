@@ -1,4 +1,5 @@
 // Checking: a record is judged, and the piles that it leaves are told. The table is lent to be changed because the search changes it for a while.
+// A cast here loses nothing, as is proved; std has no `From` between these widths, and `try_from` would have a case that never comes.
 ghost use Rattle.std.specs.Prelude.{◌≡◌, true, ◌≤◌};
 ghost use Rattle.meaning.specs.Heap.{piles, finished as finished_run};
 ghost use Rattle.meaning.specs.Room.{fitted};

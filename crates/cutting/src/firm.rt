@@ -1,4 +1,5 @@
 // A lawful run is gone on with until every pile is firm.
+// A cast here loses nothing, as is proved; std has no `From` between these widths, and `try_from` would have a case that never comes.
 ghost use Rattle.std.specs.Prelude.{◌≡◌, ◌<◌, ◌≤◌, ◌^◌, length};
 ghost use Rattle.links.specs.Table.{held};
 ghost use Rattle.weighing.specs.Search.{Small, cut_of};
@@ -35,8 +36,8 @@ fn cut(counts: Counts, names: &mut [u8; 128], space: &mut [u8], cuts: usize, spl
 }
 
 // Bone u is cut off where its noted degree is below k and its tally, summed up, is too. It is noted as great then: a bone alone is not looked at again.
-// Table, names, notes and space stay parameters: the search changes the table that is only read here, and a struct of the others would be taken apart in
-// each call below.
+// The notes are numbers and no Options, since `degrees`, `lone` and `leave` promise numbers. Here and in the functions below table, names, notes and space
+// stay parameters: the search changes the table that is only read here, and a struct of the others would be taken apart in each call.
 fn loosen(
     table: &[u32; 16384],
     counts: Counts,

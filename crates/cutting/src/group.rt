@@ -1,4 +1,5 @@
 // Grouping: a record is judged, and lawful cuts are added until every pile is firm.
+// A cast here loses nothing, as is proved; std has no `From` between these widths, and `try_from` would have a case that never comes.
 ghost use Rattle.std.specs.Prelude.{◌≡◌, true, ◌*◌, ◌-◌, ◌≤◌, ◌<◌, length};
 ghost use Rattle.meaning.specs.Judge.{Accepted, first};
 ghost use Rattle.meaning.specs.Firm.{label, groups};
@@ -26,7 +27,7 @@ use links::judge::judge_counts;
 use links::table::fill;
 use meaning::{Refusal, Row};
 
-// An accepted record is put into the record space and finished; the labels are written, and the groups counted.
+// An accepted record is put into the record space and finished; the labels are written, and the groups counted. Its parameters are those of `finish`.
 fn complete(
     table: &mut [u32; 16384],
     counts: Counts,
@@ -51,7 +52,8 @@ fn complete(
     }
 }
 
-// Rows 1, 2 and 7 to 13, and then the groups. No link is judged here: the table may hold any tallies that the search can add up.
+// Rows 1, 2 and 7 to 13, and then the groups. No link is judged here: the table may hold any tallies that the search can add up. Its first rows stand as in
+// `check_table`: row 8 comes between them and the record, so that one function of both would take what comes after as a closure.
 pub(crate) fn group_table(
     table: &mut [u32; 16384],
     n: u64,

@@ -1,5 +1,6 @@
 // A heap as names: each bone's pile name, the pile's least bone. Bones from n on have names that nothing looks at. A bone count over 128
-// means 128.
+// means 128. Names and bone count are two parameters, since docs/PROMISES.md names these functions, which take both.
+// A cast here loses nothing, as is proved; std has no `From` between these widths, and `try_from` would have a case that never comes.
 ghost use Rattle.std.specs.Prelude.{◌≡◌, ℕ, ◌+◌, ◌*◌, ◌≤◌, ◌<◌, min, slice_index};
 ghost use Rattle.meaning.specs.Count.{least};
 ghost use Rattle.meaning.specs.Heap.{parted, piles};
@@ -11,14 +12,15 @@ ghost use Rattle.cutting.specs.Names.{names as names_of, renamed_in};
 use crate::record::Entry;
 use weighing::side::in_side;
 
-// The first byte of a side that is not nought, 16 where all are: no bone of the bytes before it is on the side.
+// The first byte of a side that is not nought, 16 where all are: no bone of the bytes before it is on the side. It is a number and no Option: the search
+// for the least bone begins there, and from 16 on finds none.
 fn first_byte(side: &[u8; 16]) -> usize
     ensures { (result ≤ 16) × ((j : ℕ) → j < result → slice_index side.now j ≡ 0) }
 {
     side.iter().position(|byte| *byte != 0).unwrap_or(16)
 }
 
-// The least bone on a side, n where none of the first n is.
+// The least bone on a side, n where none of the first n is. It is n and no Option, since `part` promises the name that `least` gives.
 fn least_of(side: &[u8; 16], n: usize) -> u8
     requires { n ≤ 128 }
     ensures { result ≡ least n (side_of side.now) }

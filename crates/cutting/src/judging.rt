@@ -1,4 +1,5 @@
 // Judging a record: rows 9 to 13 of the refusal table, while it is replayed on a heap. A bone count over 128 means 128.
+// A cast here loses nothing, as is proved; std has no `From` between these widths, and `try_from` would have a case that never comes.
 ghost use Rattle.std.specs.Prelude.{◌≡◌, not, ◌&&◌, ◌/◌, ◌≤◌, ◌<◌, min, length, nat_lt};
 ghost use Rattle.meaning.specs.Count.{some};
 ghost use Rattle.meaning.specs.Judge.{first};
@@ -23,7 +24,8 @@ fn moves(side: &[u8; 16]) -> bool
     (0..128).any(|b| in_side(side, b))
 }
 
-// What an entry is judged against: the table, the names of the piles as they stand, how many bones there are, and the threshold.
+// What an entry is judged against: the table, the names of the piles as they stand, how many bones there are, and the threshold. It holds no `Piles` of
+// weighing: these stay within that crate.
 #[derive(Clone, Copy)]
 struct Judging<'a> {
     table: &'a [u32; 16384],
@@ -80,7 +82,8 @@ impl Judging<'_> {
     }
 }
 
-// Rows 10 to 13 on each entry of a record in turn, in the heap that those before it leave; the names end as the whole record leaves them.
+// Rows 10 to 13 on each entry of a record in turn, in the heap that those before it leave; the names end as the whole record leaves them. n and k are numbers,
+// and no `Counts`: `judge_record`, which docs/PROMISES.md names, may be given any k.
 fn replay(
     table: &[u32; 16384],
     n: usize,

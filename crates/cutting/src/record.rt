@@ -9,7 +9,8 @@ pub struct Record {
     pub cuts: usize,
 }
 
-// One entry: the pile's name, the weight, and the moved side.
+// One entry: the pile's name, the weight, and the moved side. It is no one type with `Split`: an entry's weight has four bytes, and the search
+// promises one that may be greater.
 #[derive(Clone, Copy, PartialEq, Eq)]
 pub struct Entry {
     pub pile: u8,
@@ -38,7 +39,8 @@ impl Record {
     }
 }
 
-// A run of bytes is put into another, from a place on, as much of it as there is room for.
+// A run of bytes is put into another, from a place on, as much of it as there is room for. Run and place are two parameters here and below, since
+// docs/PROMISES.md names this function, which takes both.
 pub fn copy(from: &[u8], to: &mut [u8], at: usize)
     ensures { to.new ≡ fitted to.old at from.now }
 {
@@ -66,7 +68,7 @@ fn put_name_and_weight(space: &mut [u8], at: usize, pile: u8, weight: u32)
     copy(&[pile, a, b, c, d], space, at);
 }
 
-// Entry i of a run of bytes; past its last whole entry, all nought.
+// Entry i of a run of bytes; past its last whole entry, all nought. Noughts and no Option, since `entry_at` promises an entry for every place.
 pub fn read(bytes: &[u8], i: usize) -> Entry
     ensures { result ≡ entry_at bytes.now i }
 {

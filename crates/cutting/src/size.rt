@@ -1,4 +1,5 @@
 // The bytes that the entries of a record take.
+// A cast here loses nothing, as is proved; std has no `From` between these widths, and `try_from` would have a case that never comes.
 ghost use Rattle.std.specs.Prelude.{◌≡◌, ◌*◌, ◌-◌};
 ghost use Rattle.cutting.specs.Record.{entry_size};
 

@@ -1,4 +1,5 @@
 // Thinning: the links whose ends share a group stay.
+// A cast here loses nothing, as is proved; std has no `From` between these widths, and `try_from` would have a case that never comes.
 ghost use Rattle.weighing.specs.Search.{Small};
 ghost use Rattle.cutting.specs.Calls.{ThinningIn};
 ghost use Rattle.cutting.specs.Above.{LabelsOf};

@@ -1,9 +1,8 @@
 -- A text put at a place of lent room, by whether it fits.
 -- Assumes nothing.
 use Rattle.std.proofs.lemmas.Grind.{common_steps}
-use Rattle.std.proofs.Common.{arith, ◌≡◌, ℕ, ◌+◌, ◌<◌, ◌≤◌, List, length, subst}
+use Rattle.std.proofs.Common.{arith, ◌≡◌, ℕ, ◌+◌, ◌<◌, ◌≤◌, List, length}
 use Rattle.meaning.specs.Room.{over}
-use Rattle.frames.specs.Frame.{line}
 use Rattle.frames.specs.Placing.{placed, behind, Puts}
 
 -- where it fits, it is written over the room
@@ -20,7 +19,3 @@ module _ (room : List ℕ) (at : ℕ) (text room' : List ℕ) (r : ℕ) (fits : 
 pub puts_short : (room : List ℕ) (at : ℕ) (text : List ℕ) → length room < at + length text → Puts room at text room at
 unfolding placed behind
 puts_short room at text h = record { next = grind (arith, common_steps); room_left = grind (arith, common_steps) }
-
--- a line whose payload is known by other words
-pub puts_told : (room room' : List ℕ) (at r kind : ℕ) (p q : List ℕ) → p ≡ q → Puts room at (line kind p) room' r → Puts room at (line kind q) room' r
-puts_told room room' at r kind p q e w = subst (λ (l : List ℕ). Puts room at (line kind l) room' r) e w

@@ -9,6 +9,7 @@ use crate::kind::Kind;
 pub const KINDS: usize = 8;
 
 // The payload's length by kind; there is no kind 00.
+// An array by number: a form that document 01 names.
 const PAYLOADS: [u8; KINDS] = [0, 3, 4, 21, 2, 16, 2, 3];
 
 // The bytes of a kind's line: two for each byte of its payload, and five for the kind, the sum and the line feed. A macro, since a constant calls no function.
@@ -36,8 +37,9 @@ pub const REFUSAL_LINE: usize = line_size!(Kind::Refusal);
 pub fn payload(kind: usize) -> usize
     ensures { result ≡ slice_index payloads kind }
 {
-    if kind == Kind::Link as usize {
-        return usize::from(PAYLOADS[Kind::Link as usize]);
+    let link = usize::from(Kind::Link);
+    if kind == link {
+        return usize::from(PAYLOADS[link]);
     }
     PAYLOADS.get(kind).map_or(0, |size| usize::from(*size))
 }

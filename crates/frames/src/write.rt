@@ -1,10 +1,13 @@
 // Writing lines of hexadecimal at a place of lent room: a digit, a byte, a run of bytes with its sum, and the line of a frame.
+// Kind and place are numbers here, and room and place two parameters, since `line` and `Puts` promise it so; so is the place that is given where nothing
+// fits.
 ghost use Rattle.std.specs.Prelude.{◌≡◌, ◌+◌, ◌*◌, ◌<◌, ◌≤◌, [], ◌∷◌, length, nat_lt};
 ghost use Rattle.meaning.specs.Room.{over};
 ghost use Rattle.frames.specs.Frame.{byte_sum, digit, hex, line};
 ghost use Rattle.frames.specs.Placing.{Puts};
 
 // The character of a digit.
+// By a test, since std gives a digit as an `Option` of a `char`, and writes hexadecimal only through `fmt`.
 #[tactic(auto, unfolding(crate::specs::Frame::digit))]
 fn digit_of(d: u8) -> u8
     requires { d < 16 }
@@ -61,7 +64,6 @@ fn too_short(room: usize, at: usize, payload: usize) -> bool
 }
 
 // The line of a frame at a place; gives the place behind it. Where the room is too short, nothing is written, and the place is given.
-// The kind is a number, and room and place are two parameters, since `line` and `Puts` promise it so of any number and any place.
 pub fn put_line(room: &mut [u8], at: usize, kind: u8, payload: &[u8]) -> usize
     ensures { Puts room.old at (line kind payload.now) room.new result }
 {

@@ -33,7 +33,7 @@ record_next room ls l =
 
 -- ---- bytes, four a link
 
-pub length-link_bytes : (ls : List Link) → length (link_bytes ls) ≡ length ls * 4
+length-link_bytes : (ls : List Link) → length (link_bytes ls) ≡ length ls * 4
 unfolding link_bytes
 length-link_bytes [] = refl
 length-link_bytes (l ∷ ls) = omega (arith, length-link_bytes ls)

@@ -1,17 +1,11 @@
 -- Runs of link records: what the functions over them say of one link and of those before it.
 use Rattle.std.specs.Prelude.{◌≡◌, ℕ, Bool, ◌&&◌, List, length, take, filter, ◌==◌, nat_lt, slice_index}
-use Rattle.std.specs.Result.{result_and}
 use Rattle.meaning.specs.declared.Link.{Link}
-use Rattle.meaning.specs.Judge.{Judged}
 use Rattle.meaning.specs.Room.{over}
 
 -- the link of noughts, which stands where there is none
 abbrev pub no_link : Link
 no_link = record { a = 0; b = 0; tally = 0 }
-
--- the first refusal of two
-abbrev pub first_of : Judged → Judged → Judged
-first_of = result_and
 
 -- whether both ends of a link carry the same label; a run of labels has 128
 unfoldable pub same_label : List ℕ → Link → Bool

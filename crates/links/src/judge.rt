@@ -40,6 +40,7 @@ pub fn judge_link(n: u64, l: Link, i: u32) -> Result<(), Refusal>
 }
 
 // The link in place i of those that a run of bytes means; past the last, a link of noughts.
+// Noughts and no Option: docs/PROMISES.md promises a link for every place, and names both forms of this function.
 pub fn link_at(links: &[u8], i: usize) -> Link
     ensures { result ≡ slice_index_or (links_of links.now) i no_link }
 {

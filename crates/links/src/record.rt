@@ -5,6 +5,7 @@ ghost use Rattle.links.specs.Records.{no_link, same_label};
 use meaning::Link;
 
 // The link in place i; past the end, a link of noughts.
+// Noughts and no Option: docs/PROMISES.md promises a link for every place, and names both forms of this function.
 pub fn link_at(links: &[Link], i: usize) -> Link
     ensures { result ≡ slice_index_or links.now i no_link }
 {
@@ -15,7 +16,7 @@ pub fn link_at(links: &[Link], i: usize) -> Link
 pub fn store_link(links: &mut [Link], i: usize, l: Link)
     ensures { links.new ≡ slice_set links.old i l }
 {
-    // Not `get_mut`: once that borrow is over, a proof knows the run's length and not its links.
+    // By index: with `get_mut` the proof did not close, since once that borrow is over it knows the run's length and not its links.
     if i < links.len() {
         links[i] = l;
     }

@@ -11,6 +11,7 @@ use crate::table::fill;
 use meaning::{Link, Refusal};
 
 // Judges n, k and links lent as records, and adds the links to the table, as far as they are accepted.
+// It is `fill` over records, and stays as the form that document 01 names; the calls over records go to `fill` themselves.
 pub fn fill_records(n: u64, k: u64, links: &[Link], table: &mut [u32; 16384]) -> Result<(), Refusal>
     ensures taken { (result ≡ first (table_rows n k true links.now)) × (table.new ≡ filled result table.old links.now) }
     ensures tallies { OnOk result (EachIndex links.now (λ i. (slice_index_or links.now i no_link).tally < 2 ^ 16)) }
@@ -27,7 +28,7 @@ pub fn judge_records(n: u64, k: u64, links: &[Link]) -> Result<(), Refusal>
 }
 
 // Writes in order the links whose ends carry the same label, in the form that they have, and gives their number. Nothing is written past the end of `out`,
-// and the rest of it stays.
+// and the rest of it stays. By place, since a run in either form has no iterator of links.
 pub fn keep_links<L: LinkForm>(links: &[L], labels: &[u8; 128], out: &mut [L]) -> usize
     ensures { KeepsLinks L.links_in L.written labels.now links.now out.old out.new result }
 {

@@ -28,6 +28,7 @@ pub fn tally_of(table: &[u32; 16384], i: usize, j: usize) -> u32
 }
 
 // The same as a term of a sum.
+// It is a function of its own, since docs/PROMISES.md names both.
 pub fn tally_between(table: &[u32; 16384], i: usize, j: usize) -> u64
     ensures { (result ≡ held table.now (i % 128) (j % 128)) × (result < 2 ^ 32) }
 {

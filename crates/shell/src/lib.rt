@@ -8,13 +8,12 @@ ghost use Rattle.std.specs.Prelude.{◌≡◌};
 
 use crate::input::{ROOM, read_input};
 use crate::output::print;
-use meaning::Refusal;
 use std::io;
 use std::io::{Stdin, Stdout};
 
 // What a program does: its function answers the input, in the space lent for the answer, and that is printed. The space holds what the function left in it;
 // for which text, no contract can say.
-pub fn run<F: FnOnce(&[u8], &mut [u8]) -> Result<u32, Refusal>>(
+pub fn run<E: Drop, F: FnOnce(&[u8], &mut [u8]) -> Result<u32, E>>(
     input: Stdin,
     output: Stdout,
     answer: F,

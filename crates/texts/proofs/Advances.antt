@@ -7,7 +7,7 @@ use mathlib.Core.Logic.{⊎_elim}
 use mathlib.Core.List.{List, []}
 use native.Mathlib.Numerals.{add-one}
 use native.Mathlib.Omega.{arith}
-use lib.Dec.{T, eqb, eqb→eq}
+use lib.Dec.{eqb, eqb→eq}
 use lib.ListN.{length, drop, length-append, drop_of_length-le}
 use Rattle.std.proofs.Common.{Ok, Err}
 use Rattle.meaning.specs.declared.Refusal.{Refusal}
@@ -27,10 +27,10 @@ use Rattle.frames.proofs.Steps.{one_more, as_many}
 use Rattle.frames.specs.Stages.{after, open_at}
 use Rattle.texts.specs.Lines.{Line, lines_of, line_rows}
 use Rattle.texts.specs.Reader.{entry_in, found_in, links_in, entries_in, bones_in, threshold_in}
-use Rattle.texts.specs.Walk.{byte_at, digits_at, size_at}
+use Rattle.texts.specs.Walk.{byte_at, size_at}
 use Rattle.texts.specs.Judging.{Passes, Bounded, Ready, Advanced, head_from, read_from}
 use Rattle.texts.proofs.Lines.{front}
-use Rattle.texts.proofs.Walks.{size_of, well_digits, well_room}
+use Rattle.texts.proofs.Walks.{well_room}
 use Rattle.texts.proofs.Rows.{row_applies, row_passes, answered_accepted, answered_refused}
 use Rattle.texts.proofs.Judging.{rest, rest_at, rows_pass, head_read, head_kept}
 use Rattle.texts.proofs.ReadsText.{bones_front, threshold_front, links_front, links_skip, entries_front, entries_skip, entry_length}
@@ -209,15 +209,6 @@ module _ (text : List ℕ) (s t : Progress) (f : Frame) (r : Ready text s f) (p 
           advance_cut text s t r.small r.line.passes moved (sym found_kind ∙ e) p.n p.k (same_links b) (more_cuts e))
           (λ u. no_cut b (neqb→ne (number_of f.kind) 3 u))
           (decide (eqb (number_of f.kind) 3))
-
--- a head's bytes are digits
-pub head_digits : (text : List ℕ) (s : Progress) (f : Frame) → Ready text s f → number_of f.kind ≡ 1 → (i : ℕ) → i < 5 → T (digits_at (drop s.at text) i)
-head_digits text s f r e i h =
-    well_digits (drop s.at text) r.line.passes.well i
-    (omega (arith, size_of (drop s.at text) 1 (sym r.line.frame.kind ∙ e)))
-
-pub head_room : (text : List ℕ) (s : Progress) (f : Frame) → Ready text s f → number_of f.kind ≡ 1 → s.at + 10 < length text
-head_room text s f r e = omega (arith, ready_room text s f r, r.line.frame.size, size_of (drop s.at text) 1 (sym r.line.frame.kind ∙ e))
 
 -- reading from the start, to a refusal, and to the end
 abbrev beginning : Progress

@@ -5,13 +5,13 @@ use mathlib.Core.Path.{◌≡◌, refl, sym, ◌∙◌, ap, ap₂, subst}
 use mathlib.Core.Logic.{⊎_elim}
 use mathlib.Core.Bool.{Bool, true, false, cond, ◌&&◌}
 use mathlib.Core.List.{List, [], ◌∷◌, ◌++◌}
-use native.Mathlib.Nat.{le_of_lt, add_assoc}
+use native.Mathlib.Nat.{le_of_lt}
 use native.Mathlib.Numerals.{add-one}
 use native.Mathlib.Omega.{arith}
 use borrow.Author.Tests.{ne_eqb}
 use lib.Dec.{T, eqb, ltb, ltb→lt, eqb→eq}
 use lib.ListN.{length, get_or, take, drop, length-append}
-use lib.Seq.{split_at, length-take-le, get_or-take, get_or-drop, take-append_seam, get_or-append_seam}
+use lib.Seq.{split_at, length-take-le, get_or-take, take-append_seam, get_or-append_seam}
 use Rattle.meaning.proofs.Tests.{both, left_of, right_of, decide, is_true, neqb→ne}
 use Rattle.frames.specs.Frame.{payloads, value_of, is_hex, bytes_of, well_formed}
 use Rattle.texts.specs.Lines.{Line, before, lines_of, frame, kind}
@@ -141,38 +141,28 @@ unfolding byte_at
 byte_at-take n cs i h =
     ap₂ (λ (x y : ℕ). value_of x * 16 + value_of y) (get_or-take n cs (2 * i) 0 (omega arith)) (get_or-take n cs (2 * i + 1) 0 (omega arith))
 
--- a pair read at a place: the byte there if it is below 256, and else no digits
-here : (text : List ℕ) (at i : ℕ) → pair_of (get_or text (at + 2 * i) 0) (get_or text (at + 2 * i + 1) 0) ≡ pair_of (get_or (drop at text) (2 * i) 0) (get_or (drop at text) (2 * i + 1) 0)
-here text at i =
-    ap₂ pair_of (sym (get_or-drop at text (2 * i) 0))
-    (ap (λ (n : ℕ). get_or text n 0) (add_assoc at (2 * i) 1) ∙ sym (get_or-drop at text (2 * i + 1) 0))
-
-pub pair_digits_at : (text : List ℕ) (at i : ℕ) → pair_of (get_or text (at + 2 * i) 0) (get_or text (at + 2 * i + 1) 0) < 256 → T (digits_at (drop at text) i)
+-- a pair of characters: the byte there if it is below 256, and else no digits
+pub pair_digits_at : (cs : List ℕ) (i : ℕ) → pair_of (get_or cs (2 * i) 0) (get_or cs (2 * i + 1) 0) < 256 → T (digits_at cs i)
 unfolding digits_at pair_of
-pair_digits_at text at i h =
-    let x = value_of (get_or (drop at text) (2 * i) 0) in
-    let y = value_of (get_or (drop at text) (2 * i + 1) 0) in
-    ⊎_elim (λ w. w.0) (λ w. absurd (omega (arith, here text at i))) (chosen (ltb x 16 && ltb y 16) (x * 16 + y) 256)
+pair_digits_at cs i h =
+    let x = value_of (get_or cs (2 * i) 0) in
+    let y = value_of (get_or cs (2 * i + 1) 0) in
+    ⊎_elim (λ w. w.0) (λ w. absurd (omega (arith, w.1))) (chosen (ltb x 16 && ltb y 16) (x * 16 + y) 256)
 
-pub pair_byte_at : (text : List ℕ) (at i : ℕ) → T (digits_at (drop at text) i) → pair_of (get_or text (at + 2 * i) 0) (get_or text (at + 2 * i + 1) 0) ≡ byte_at (drop at text) i
+pub pair_byte_at : (cs : List ℕ) (i : ℕ) → T (digits_at cs i) → pair_of (get_or cs (2 * i) 0) (get_or cs (2 * i + 1) 0) ≡ byte_at cs i
 unfolding digits_at byte_at pair_of
-pair_byte_at text at i t =
-    let x = value_of (get_or (drop at text) (2 * i) 0) in
-    let y = value_of (get_or (drop at text) (2 * i + 1) 0) in
-    here text at i ∙ ap (λ (b : Bool). cond b (x * 16 + y) 256) (is_true (ltb x 16 && ltb y 16) t)
+pair_byte_at cs i t =
+    let x = value_of (get_or cs (2 * i) 0) in
+    let y = value_of (get_or cs (2 * i + 1) 0) in
+    ap (λ (b : Bool). cond b (x * 16 + y) 256) (is_true (ltb x 16 && ltb y 16) t)
 
 -- the two values of a pair of digits, and the byte that they make
-pub values_at : (text : List ℕ) (at i : ℕ) → T (digits_at (drop at text) i)
-    → (value_of (get_or text (at + 2 * i) 0) < 16) × (value_of (get_or text (at + 2 * i + 1) 0) < 16) × (value_of (get_or text (at + 2 * i) 0) * 16 + value_of (get_or text (at + 2 * i + 1) 0) ≡ byte_at (drop at text) i)
-unfolding digits_at byte_at
-values_at text at i t =
-    let x = value_of (get_or (drop at text) (2 * i) 0) in
-    let y = value_of (get_or (drop at text) (2 * i + 1) 0) in
-    let p : x ≡ value_of (get_or text (at + 2 * i) 0) = ap value_of (get_or-drop at text (2 * i) 0) in
-    let q : y ≡ value_of (get_or text (at + 2 * i + 1) 0) = ap value_of (get_or-drop at text (2 * i + 1) 0 ∙ ap (λ (n : ℕ). get_or text n 0) (sym (add_assoc at (2 * i) 1))) in
-    let a = ltb→lt x 16 (left_of (ltb x 16) (ltb y 16) t) in
-    let b = ltb→lt y 16 (right_of (ltb x 16) (ltb y 16) t) in
-    (omega arith, omega arith, omega arith)
+pub values_at : (cs : List ℕ) (i : ℕ) → T (digits_at cs i) → (value_of (get_or cs (2 * i) 0) < 16) × (value_of (get_or cs (2 * i + 1) 0) < 16)
+unfolding digits_at
+values_at cs i t =
+    let x = value_of (get_or cs (2 * i) 0) in
+    let y = value_of (get_or cs (2 * i + 1) 0) in
+    (ltb→lt x 16 (left_of (ltb x 16) (ltb y 16) t), ltb→lt y 16 (right_of (ltb x 16) (ltb y 16) t))
 
 pub byte_at_bound : (cs : List ℕ) (i : ℕ) → T (digits_at cs i) → byte_at cs i < 256
 unfolding digits_at byte_at

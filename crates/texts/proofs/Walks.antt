@@ -1,12 +1,11 @@
--- Laws of the frame at a place of a text, as the reader finds it: its size, its sum, and the three together.
+-- Laws of the frame at the front of what is left of a text, as the reader finds it: its size, its sum, and the three together.
 -- Assumes nothing.
 use Prim.Native.Nat.{ℕ, ◌+◌, ◌*◌, ◌-◌, ◌%◌, ◌≤◌, ◌<◌}
 use mathlib.Core.Path.{◌≡◌, refl, sym, ◌∙◌, ap, subst}
 use mathlib.Core.Logic.{⊎_elim, ◌⊎◌, inl, inr}
 use mathlib.Core.Bool.{Bool, true, false, not, ◌||◌, cond, true≢false}
-use Rattle.std.proofs.Common.{Option, Some, None, SomeIff, is_some, unwrap_or}
+use Rattle.std.proofs.Common.{Option, Some, None, SomeIff, unwrap_or}
 use mathlib.Core.List.{List}
-use native.Mathlib.Nat.{add-zero}
 use native.Mathlib.Omega.{arith}
 use lib.Dec.{T, eqb, ltb, lt→ltb, T_not, leb}
 use borrow.Author.Tests.{lt-leb, le-leb, lt-ltb}
@@ -32,15 +31,14 @@ pub added_none : (cs : List ℕ) → Added cs 0 0
 unfolding is_hex bytes_of byte_sum
 added_none cs = record { digits = tt; sum = refl }
 
-pub added_more : (text : List ℕ) (at i s byte r : ℕ) → at + 2 * i + 2 ≤ length text → Added (drop at text) i s
-    → byte ≡ pair_of (get_or text (at + 2 * i) 0) (get_or text (at + 2 * i + 1) 0) → byte < 256 → r ≡ (s + byte) % 256 → Added (drop at text) (i + 1) r
-added_more text at i s byte r room a e h total =
-    let t = pair_digits_at text at i (subst (λ (x : ℕ). x < 256) e h) in
-    let n : 2 * i + 2 ≤ length (drop at text) = omega (arith, length-drop at text) in
+pub added_more : (cs : List ℕ) (i s byte r : ℕ) → 2 * i + 2 ≤ length cs → Added cs i s
+    → byte ≡ pair_of (get_or cs (2 * i) 0) (get_or cs (2 * i + 1) 0) → byte < 256 → r ≡ (s + byte) % 256 → Added cs (i + 1) r
+added_more cs i s byte r n a e h total =
+    let t = pair_digits_at cs i (subst (λ (x : ℕ). x < 256) e h) in
     let twice : 2 * (i + 1) ≡ 2 * i + 2 = omega arith in
     record {
-      digits = rw twice (hex_snoc (drop at text) i n a.digits t);
-      sum = rw (twice, bytes_of_snoc (drop at text) i n, sum_snoc) (omega (arith, pair_byte_at text at i t, a.sum));
+      digits = rw twice (hex_snoc cs i n a.digits t);
+      sum = rw (twice, bytes_of_snoc cs i n, sum_snoc) (omega (arith, pair_byte_at cs i t, a.sum));
     }
 
 -- after the first i pairs: their sum where they are all digits, and whether some are not
@@ -62,33 +60,33 @@ pair_digits : (c d : ℕ) → value_of c < 16 → value_of d < 16 → value_of c
 unfolding pair_of
 pair_digits c d h k = rw (lt-ltb (value_of c) 16 h, lt-ltb (value_of d) 16 k) refl
 
-pub adding_more : (text : List ℕ) (at size i sum : ℕ) (bad : Bool) (h l r : ℕ) → at + 2 * size ≤ length text → i < size
-    → Adding (drop at text) size i sum bad
-    → ((h < 16) × (h ≡ value_of (get_or text (at + 2 * i) 0))) ⊎ ((16 ≤ h) × (16 ≤ value_of (get_or text (at + 2 * i) 0)))
-    → ((l < 16) × (l ≡ value_of (get_or text (at + 2 * i + 1) 0))) ⊎ ((16 ≤ l) × (16 ≤ value_of (get_or text (at + 2 * i + 1) 0)))
+pub adding_more : (cs : List ℕ) (size i sum : ℕ) (bad : Bool) (h l r : ℕ) → 2 * size ≤ length cs → i < size
+    → Adding cs size i sum bad
+    → ((h < 16) × (h ≡ value_of (get_or cs (2 * i) 0))) ⊎ ((16 ≤ h) × (16 ≤ value_of (get_or cs (2 * i) 0)))
+    → ((l < 16) × (l ≡ value_of (get_or cs (2 * i + 1) 0))) ⊎ ((16 ≤ l) × (16 ≤ value_of (get_or cs (2 * i + 1) 0)))
     → r ≡ (sum + (h * 16 % 256 + l) % 256) % 256
-    → Adding (drop at text) size (i + 1) r (bad || (leb 16 h || leb 16 l))
-adding_more text at size i sum true h l r room less a p q total =
+    → Adding cs size (i + 1) r (bad || (leb 16 h || leb 16 l))
+adding_more cs size i sum true h l r room less a p q total =
     record { good = λ z. absurd (true≢false z); broken = λ z. a.broken refl }
-adding_more text at size i sum false h l r room less a (inl p) (inl q) total =
+adding_more cs size i sum false h l r room less a (inl p) (inl q) total =
     rw (lt-leb 16 h p.0, lt-leb 16 l q.0)
     (record {
       good = λ z.
-          added_more text at i sum _ r (omega arith) (a.good refl) (pair_digits (get_or text (at + 2 * i) 0) (get_or text (at + 2 * i + 1) 0) (omega arith) (omega arith))
+          added_more cs i sum _ r (omega arith) (a.good refl) (pair_digits (get_or cs (2 * i) 0) (get_or cs (2 * i + 1) 0) (omega arith) (omega arith))
           (omega arith) (omega arith);
       broken = λ z. absurd (true≢false (sym z));
     })
-adding_more text at size i sum false h l r room less a (inl p) (inr q) total =
+adding_more cs size i sum false h l r room less a (inl p) (inr q) total =
     rw (lt-leb 16 h p.0, le-leb 16 l q.0)
     (record {
       good = λ z. absurd (true≢false z);
-      broken = λ z t. omega (arith, q.1, values_at text at i (hex_at (drop at text) i size (omega (arith, length-drop at text)) t less));
+      broken = λ z t. omega (arith, q.1, values_at cs i (hex_at cs i size (omega arith) t less));
     })
-adding_more text at size i sum false h l r room less a (inr p) q total =
+adding_more cs size i sum false h l r room less a (inr p) q total =
     rw (le-leb 16 h p.0)
     (record {
       good = λ z. absurd (true≢false z);
-      broken = λ z t. omega (arith, p.1, values_at text at i (hex_at (drop at text) i size (omega (arith, length-drop at text)) t less));
+      broken = λ z t. omega (arith, p.1, values_at cs i (hex_at cs i size (omega arith) t less));
     })
 
 pub size_least : (cs : List ℕ) → 2 ≤ size_at cs
@@ -107,22 +105,21 @@ well_digits cs w i h = hex_at cs i (size_at cs) (omega (arith, w.room)) w.digits
 pub well_room : (text : List ℕ) (at : ℕ) → Well (drop at text) → at + 2 * size_at (drop at text) < length text
 well_room text at w = omega (arith, w.room, length-drop at text)
 
-pub within : (text : List ℕ) (at k : ℕ) → Well (drop at text) → byte_at (drop at text) 0 ≡ k → (i : ℕ) → i < get_or payloads k 0 + 2
-    → (at + 2 * i + 2 ≤ length text) × T (digits_at (drop at text) i)
-within text at k w e i h =
-    let s = size_of (drop at text) k e in
-    (omega (arith, well_room text at w), well_digits (drop at text) w i (omega arith))
+pub within : (cs : List ℕ) (k : ℕ) → Well cs → byte_at cs 0 ≡ k → (i : ℕ) → i < get_or payloads k 0 + 2 → (2 * i + 2 ≤ length cs) × T (digits_at cs i)
+within cs k w e i h =
+    let s = size_of cs k e in
+    (omega (arith, w.room), well_digits cs w i (omega arith))
+
+-- a slice from a place on is what is left of a text there
+pub left_is : (text : List ℕ) (at : ℕ) → take (length text - at) (drop at text) ≡ drop at text
+left_is text at = take_all (length text - at) (drop at text) (omega (arith, length-drop at text))
 
 -- the byte that a pair of digits means
-pub byte_told : (text : List ℕ) (at i : ℕ) (byte : Option ℕ) (r : ℕ)
-    → SomeIff byte (pair_of (get_or text (at + 2 * i) 0) (get_or text (at + 2 * i + 1) 0) < 256) (pair_of (get_or text (at + 2 * i) 0) (get_or text (at + 2 * i + 1) 0))
-    → r ≡ unwrap_or byte 0 → T (digits_at (drop at text) i) → r ≡ byte_at (drop at text) i
-byte_told text at i (Some b) r e q t = q ∙ e.1 ∙ pair_byte_at text at i t
-byte_told text at i None r e q t = absurd (e (omega (arith, pair_byte_at text at i t, byte_at_bound (drop at text) i t)))
-
--- a line feed behind so many bytes at a place: in what is left of the text from there on
-pub feed_left : (text : List ℕ) (at size : ℕ) (r : Bool) → r ≡ feed_at (take (length text - at) (drop at text)) size → r ≡ feed_at (drop at text) size
-feed_left text at size r e = e ∙ ap (λ (l : List ℕ). feed_at l size) (take_all (length text - at) (drop at text) (omega (arith, length-drop at text)))
+pub byte_told : (cs : List ℕ) (i : ℕ) (byte : Option ℕ) (r : ℕ)
+    → SomeIff byte (pair_of (get_or cs (2 * i) 0) (get_or cs (2 * i + 1) 0) < 256) (pair_of (get_or cs (2 * i) 0) (get_or cs (2 * i + 1) 0))
+    → r ≡ unwrap_or byte 0 → T (digits_at cs i) → r ≡ byte_at cs i
+byte_told cs i (Some b) r e q t = q ∙ e.1 ∙ pair_byte_at cs i t
+byte_told cs i None r e q t = absurd (e (omega (arith, pair_byte_at cs i t, byte_at_bound cs i t)))
 
 -- a line feed stands at the end of a well formed line
 well_feed : (cs : List ℕ) (size : ℕ) → Well cs → size ≡ size_at cs → T (feed_at cs size)
@@ -143,56 +140,52 @@ some_number Note = tt
 some_number Close = tt
 some_number Refusal = tt
 
--- the kind of the frame at a place
-module _ (text : List ℕ) (at : ℕ) where
+-- the kind of the frame
+module _ (cs : List ℕ) where
   abbrev first-pair : ℕ
-  first-pair = pair_of (get_or text at 0) (get_or text (at + 1) 0)
+  first-pair = pair_of (get_or cs 0 0) (get_or cs 1 0)
 
   abbrev pub first-kind : ℕ
-  first-kind = kind_of (get_or text at 0) (get_or text (at + 1) 0)
-
-  pair-first : first-pair ≡ pair_of (get_or text (at + 2 * 0) 0) (get_or text (at + 2 * 0 + 1) 0)
-  pair-first = rw add-zero refl
+  first-kind = kind_of (get_or cs 0 0) (get_or cs 1 0)
 
   -- where the first characters mean a kind, it is the first byte
-  pub kind_below : (kind : Kind) → number_of kind ≡ first-kind → number_of kind ≡ byte_at (drop at text) 0
+  pub kind_below : (kind : Kind) → number_of kind ≡ first-kind → number_of kind ≡ byte_at cs 0
   unfolding kind_of
   kind_below kind e =
       let some = kind_bounds (number_of kind) (some_number kind) in
       ⊎_elim
       (λ w.
-      let q : number_of kind ≡ first-pair = e ∙ w.1 in
-      let p : number_of kind ≡ pair_of (get_or text (at + 2 * 0) 0) (get_or text (at + 2 * 0 + 1) 0) = q ∙ pair-first in
-      p ∙ pair_byte_at text at 0 (pair_digits_at text at 0 (subst (λ (x : ℕ). x < 256) p (omega (arith, some)))))
+      let p : number_of kind ≡ first-pair = e ∙ w.1 in
+      p ∙ pair_byte_at cs 0 (pair_digits_at cs 0 (subst (λ (x : ℕ). x < 256) p (omega (arith, some)))))
       (λ w. absurd (omega (arith, some, e ∙ w.1)))
       (chosen (is_kind first-pair) first-pair 0)
 
   -- in front of a well formed line stands its kind
-  pub kind_front : Well (drop at text) → first-kind ≡ byte_at (drop at text) 0
+  pub kind_front : Well cs → first-kind ≡ byte_at cs 0
   unfolding kind_of
   kind_front w =
-      let d = hex_at (drop at text) 0 (size_at (drop at text)) (omega (arith, w.room)) w.digits (omega (arith, size_least (drop at text))) in
-      let q : first-pair ≡ byte_at (drop at text) 0 = pair-first ∙ pair_byte_at text at 0 d in
+      let d = hex_at cs 0 (size_at cs) (omega (arith, w.room)) w.digits (omega (arith, size_least cs)) in
+      let q : first-pair ≡ byte_at cs 0 = pair_byte_at cs 0 d in
       ap (λ (b : Bool). cond b first-pair 0) (is_true (is_kind first-pair) (subst (λ (x : ℕ). T (is_kind x)) (sym q) w.kind)) ∙ q
 
-  pub kind_well : Well (drop at text) → 1 ≤ first-kind
-  kind_well w = omega (arith, kind_front w, kind_bounds (byte_at (drop at text) 0) w.kind)
+  pub kind_well : Well cs → 1 ≤ first-kind
+  kind_well w = omega (arith, kind_front w, kind_bounds (byte_at cs 0) w.kind)
 
-  -- the line there, by the line feed behind its frame
+  -- the line, by the line feed behind its frame
   module _ (kind : Kind) (e : number_of kind ≡ first-kind) (size : ℕ) (s : size ≡ get_or payloads (number_of kind) 0 + 2) where
-    size_is : size ≡ size_at (drop at text)
+    size_is : size ≡ size_at cs
     unfolding size_at
     size_is = s ∙ ap (λ (x : ℕ). get_or payloads x 0 + 2) (kind_below kind e)
 
-    pub line_found : T (feed_at (drop at text) size) → LineAt (drop at text) kind size
+    pub line_found : T (feed_at cs size) → LineAt cs kind size
     line_found t =
-        let feed = feed_told (drop at text) size t in
+        let feed = feed_told cs size t in
         record { kind_is = kind_below kind e; size_is = size_is; room = feed.0; feed = feed.1 }
 
-    pub no_feed : T (not (feed_at (drop at text) size)) → Well (drop at text) → ⊥
-    no_feed t w = T_not (feed_at (drop at text) size) t (well_feed (drop at text) size w size_is)
+    pub no_feed : T (not (feed_at cs size)) → Well cs → ⊥
+    no_feed t w = T_not (feed_at cs size) t (well_feed cs size w size_is)
 
--- the frame at a place, from its line and its sum
+-- the frame, from its line and its sum
 module _ (cs : List ℕ) (kind : Kind) (size : ℕ) (l : LineAt cs kind size) where
   digits_is : T (is_hex (take (2 * size_at cs) cs)) → T (is_hex (take (2 * size) cs))
   digits_is t = subst (λ (n : ℕ). T (is_hex (take (2 * n) cs))) (sym l.size_is) t

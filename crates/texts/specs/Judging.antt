@@ -1,7 +1,7 @@
 -- What the parts of the judging pass promise each other: a line that passed, and what is left to read from there on.
 use Rattle.std.specs.Prelude.{ℕ, ◌+◌, ◌*◌, ◌/◌, ◌≤◌, ◌<◌, ◌≡◌, Bool, true, ◌&&◌, List, [], ◌∷◌, T, length, take, drop, Result, Err, MatchResult}
 use Rattle.meaning.specs.declared.Refusal.{Refusal}
-use Rattle.meaning.specs.Judge.{answered, first}
+use Rattle.meaning.specs.Judge.{Judged, answered, first}
 use Rattle.cutting.specs.Record.{entry_size}
 use Rattle.texts.specs.declared.Reading.{Reading}
 use Rattle.texts.specs.declared.frame.Frame.{Frame}
@@ -26,9 +26,9 @@ pub record LinePassed (cs : List ℕ) (stage : Stage) (line : ℕ) (f : Frame) :
   pub frame : FrameAt cs f
   pub passes : Passes cs stage line
 
--- that, or the first of the rows 16 to 19 that refuses it
-abbrev pub LineJudged : List ℕ → Stage → ℕ → Result Frame Refusal → Type 0
-LineJudged cs stage line r = MatchResult r (LinePassed cs stage line) (λ refusal. first (line_rows stage line (lines_of cs)) ≡ Err refusal)
+-- they do, or the first of them that refuses it is told
+abbrev pub LineJudged : List ℕ → Stage → ℕ → Judged → Type 0
+LineJudged cs stage line r = MatchResult r (λ done. Passes cs stage line) (λ refusal. first (line_rows stage line (lines_of cs)) ≡ Err refusal)
 
 -- a number of the head: still to be read, or read before
 unfoldable pub head_from : Stage → ℕ → ℕ → ℕ

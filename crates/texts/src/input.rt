@@ -1,5 +1,6 @@
 // The input writer: head, links, cuts, close. Its links are lent as records, which only `put_links` goes through; the frames around them are
 // written first, and leave room for them.
+// A cast here loses nothing, as is proved: the rows before it have passed. `try_from` would need a refusal that never comes.
 ghost use Rattle.std.specs.Prelude.{◌≡◌, ◌+◌, ◌*◌, ◌≤◌, ◌<◌, length};
 ghost use Rattle.meaning.specs.Judge.{Accepted, first};
 ghost use Rattle.meaning.specs.Room.{over};
@@ -15,7 +16,7 @@ use frames::frame::{CUT_LINE, HEAD_LINE, LINK_LINE};
 use links::records::judge_records;
 use meaning::{Link, Refusal, Row};
 
-// The length of an input text.
+// The length of an input text. n, k and counts stay numbers here and below: the writers take them so, and `Counts` says once what rows 1 to 6 found.
 fn input_size(count: usize, cuts: usize) -> usize
     requires { (count ≤ 4096) × (cuts ≤ 127) }
     ensures { result ≡ input_size count cuts }
@@ -65,7 +66,7 @@ fn put_record(text: &mut [u8], i: usize, l: Link)
     requires { line_size 1 + line_size 2 * i + line_size 2 ≤ length text.old }
     ensures { text.new ≡ over text.old (line_size 1 + line_size 2 * i) (link_line l) }
 {
-    put_link(text, HEAD_LINE + LINK_LINE * i, l.a, l.b, l.tally);
+    put_link(text, HEAD_LINE + LINK_LINE * i, l);
 }
 
 // Frames 02 of a run of records, behind the head.

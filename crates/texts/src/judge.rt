@@ -1,9 +1,11 @@
 // The judging pass over a text: rows 15 to 19 and the counts, without a byte stored.
-ghost use Rattle.std.specs.Prelude.{◌≡◌, ◌<◌, ◌≤◌, length, drop};
+// A cast here loses nothing, as is proved; std has no `From` between these widths, and `try_from` would have a case that never comes.
+ghost use Rattle.std.specs.Prelude.{◌≡◌, ◌≤◌, length};
 ghost use Rattle.meaning.specs.Judge.{answered, first};
 ghost use Rattle.frames.specs.declared.stage.Stage.TheVariants.{Opening};
 ghost use Rattle.texts.specs.Lines.{lines_of, line_rows};
 ghost use Rattle.texts.specs.Reader.{found_in, reader_rows};
+ghost use Rattle.texts.specs.Walk.{FrameAt};
 ghost use Rattle.texts.specs.Judging.{LineJudged, Ready, Advanced};
 
 use crate::Reading;
@@ -14,24 +16,21 @@ use frames::progress::{Progress, step};
 use frames::stage::{Stage, is_open, may_follow};
 use meaning::{Refusal, Row};
 
-// Rows 16 to 19 on the line at a place; gives its frame.
-fn judge_line(text: &[u8], at: usize, stage: Stage, line: u32) -> Result<Frame, Refusal>
-    requires { at < length text.now }
-    ensures { LineJudged (drop at text.now) stage line result }
+// Rows 17 to 19 on the frame at the front of what is left of a text. Row 16 stands in the loop: where this gave the frame, judging took twice as long.
+fn judge_line(left: &[u8], frame: Frame, stage: Stage, line: u32) -> Result<(), Refusal>
+    requires { FrameAt left.now frame }
+    ensures { LineJudged left.now stage line result }
 {
-    let Some(frame) = frame_at(text, at) else {
-        return Err(Row::Line.at(line));
-    };
     if frame.sum != 0 {
         return Err(Row::Sum.at(line));
     }
     if !may_follow(stage, frame.kind as usize) {
         return Err(Row::Order.at(line));
     }
-    if frame.kind == Kind::Close && u32::from(number_at(text, at, 1)) != line {
+    if frame.kind == Kind::Close && u32::from(number_at(left, 1)) != line {
         return Err(Row::Close.at(line));
     }
-    Ok(frame)
+    Ok(())
 }
 
 // What is known behind a line that passed: one step further, and a head's numbers.
@@ -42,8 +41,8 @@ fn advance(text: &[u8], s: Progress, frame: Frame) -> Progress
     let next = step(s, frame.kind as usize, frame.size);
     if frame.kind == Kind::Head {
         return Progress {
-            n: byte_at(text, s.at, 1),
-            k: number_at(text, s.at, 2),
+            n: byte_at(&text[s.at..], 1),
+            k: number_at(&text[s.at..], 2),
             ..next
         };
     }
@@ -57,7 +56,11 @@ fn judge_lines(text: &[u8]) -> Result<Reading, Refusal>
 {
     let mut s = Progress::default();
     while s.at < text.len() {
-        let frame = judge_line(text, s.at, s.stage, s.line)?;
+        let left = &text[s.at..];
+        let Some(frame) = frame_at(left) else {
+            return Err(Row::Line.at(s.line));
+        };
+        judge_line(left, frame, s.stage, s.line)?;
         s = advance(text, s, frame);
     }
     if is_open(s.stage) {

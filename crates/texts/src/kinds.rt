@@ -13,6 +13,7 @@ use cutting::record::Record;
 use frames::frame::{CUT_LINE, LABEL_LINE};
 use frames::kind::Kind;
 use frames::write::put_line;
+use meaning::Link;
 
 // Frame 01: the bone count and the threshold.
 pub fn put_head(room: &mut [u8], at: usize, n: u8, k: u16) -> usize
@@ -23,11 +24,11 @@ pub fn put_head(room: &mut [u8], at: usize, n: u8, k: u16) -> usize
 }
 
 // Frame 02: a link.
-pub fn put_link(room: &mut [u8], at: usize, a: u8, b: u8, tally: u16) -> usize
-    ensures { Puts room.old at (link_line (record { a = a; b = b; tally = tally })) room.new result }
+pub fn put_link(room: &mut [u8], at: usize, l: Link) -> usize
+    ensures { Puts room.old at (link_line l) room.new result }
 {
-    let [high, low] = tally.to_be_bytes();
-    put_line(room, at, Kind::Link as u8, &[a, b, high, low])
+    let [high, low] = l.tally.to_be_bytes();
+    put_line(room, at, Kind::Link as u8, &[l.a, l.b, high, low])
 }
 
 // Frames 03 of the whole entries of a record, in room that they fit in.
@@ -43,7 +44,7 @@ fn each_cut(room: &mut [u8], at: usize, bytes: &[u8]) -> usize
     next
 }
 
-// Frames 03: the whole entries of a record.
+// Frames 03: the whole entries of a record. Its guard divides, since so many lines need not fit a number, where that of labels multiplies.
 pub fn put_cuts(room: &mut [u8], at: usize, bytes: &[u8]) -> usize
     ensures { Puts room.old at (cut_lines (length bytes.now / entry_size) bytes.now) room.new result }
 {
@@ -60,7 +61,7 @@ fn put_label(room: &mut [u8], at: usize, bone: u8, name: u8) -> usize
     put_line(room, at, Kind::Label as u8, &[bone, name])
 }
 
-// Frames 04 of the bones 0 to n − 1, in room that they fit in.
+// Frames 04 of the bones 0 to n − 1, in room that they fit in. The cast of a bone loses nothing: there are 128 at most.
 fn each_label(room: &mut [u8], at: usize, n: usize, names: &[u8; 128]) -> usize
     requires { (n ≤ 128) × (at + line_size 4 * n ≤ length room.old) }
     ensures { (result ≡ at + line_size 4 * n) × (room.new ≡ over room.old at (label_lines n (heap_of names.now))) }
@@ -91,7 +92,7 @@ pub fn put_close(room: &mut [u8], at: usize, frames: u16) -> usize
     put_line(room, at, Kind::Close as u8, &[high, low])
 }
 
-// Frame 07: a refusal's number and place.
+// Frame 07: a refusal's number and place, which are two numbers as in `write_refusal`.
 pub(crate) fn put_refusal(room: &mut [u8], at: usize, number: u8, place: u16) -> usize
     ensures { Puts room.old at (refusal_line number place) room.new result }
 {

@@ -5,10 +5,10 @@ use crate::kinds::put_refusal;
 use frames::frame::REFUSAL_LINE;
 use meaning::{Refusal, Row};
 
-// What is written, in bytes.
+// What is written, in bytes: a cast, since a constant calls no function.
 const LENGTH: u32 = REFUSAL_LINE as u32;
 
-// Row 20, then the frame at the front of the text space.
+// Row 20, then the frame at the front of the text space. A number and not a row, since `Refuses` promises a frame for every byte.
 pub fn write_refusal(number: u8, place: u16, text: &mut [u8]) -> Result<u32, Refusal>
     ensures { Refuses number place text.old text.new result }
 {

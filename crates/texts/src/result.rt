@@ -1,4 +1,5 @@
 // The result writer: head, the record's cuts, the pile names that checking gives, close. It checks the record first.
+// A cast here loses nothing, as is proved: the rows before it have passed. `try_from` would need a refusal that never comes.
 ghost use Rattle.std.specs.Prelude.{◌≡◌, ◌≤◌, ◌<◌, length};
 ghost use Rattle.meaning.specs.Room.{over};
 ghost use Rattle.texts.specs.Writing.{WritesWhole};
@@ -13,7 +14,7 @@ use cutting::record::Record;
 use frames::frame::{CUT_LINE, LABEL_LINE};
 use meaning::{Link, Refusal, Row};
 
-// The length of a result text.
+// The length of a result text. n, k and counts stay numbers here and below: the writers take them so, and `Named` says once what rows 1 to 13 found.
 fn length_of(n: u64, cuts: usize) -> usize
     requires { (n ≤ 128) × (cuts ≤ 127) }
     ensures { result ≡ result_size cuts n }

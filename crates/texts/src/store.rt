@@ -29,13 +29,14 @@ pub(crate) trait Held: Copy {
         ensures value { number_of result ≡ number }
         ensures holds { Holds (number_of result) held part };
 
-    // What the frame at a place holds, put into the room from a place on; gives the place behind it.
-    fn put(text: &[u8], at: usize, room: &mut [Self], to: usize) -> usize
-        requires well { Well (drop at text.now) }
-        requires kind { byte_at (drop at text.now) 0 ≡ number }
-        requires room { to + length (part (drop at text.now)) ≤ length room.old }
-        ensures value { result ≡ to + length (part (drop at text.now)) }
-        ensures room_after { room.new ≡ over room.old to (part (drop at text.now)) };
+    // What the frame at the front of what is left of a text holds, put into the room from a place on; gives the place behind it. Room and place are two, as in
+    // `Puts`.
+    fn put(left: &[u8], room: &mut [Self], to: usize) -> usize
+        requires well { Well left.now }
+        requires kind { byte_at left.now 0 ≡ number }
+        requires room { to + length (part left.now) ≤ length room.old }
+        ensures value { result ≡ to + length (part left.now) }
+        ensures room_after { room.new ≡ over room.old to (part left.now) };
 }
 
 impl Held for Link {
@@ -49,11 +50,11 @@ impl Held for Link {
         Kind::Link
     }
 
-    fn put(text: &[u8], at: usize, room: &mut [Link], to: usize) -> usize {
+    fn put(left: &[u8], room: &mut [Link], to: usize) -> usize {
         room[to] = Link {
-            a: byte_at(text, at, 1),
-            b: byte_at(text, at, 2),
-            tally: number_at(text, at, 3),
+            a: byte_at(left, 1),
+            b: byte_at(left, 2),
+            tally: number_at(left, 3),
         };
         to + 1
     }
@@ -70,15 +71,15 @@ impl Held for u8 {
         Kind::Cut
     }
 
-    fn put(text: &[u8], at: usize, room: &mut [u8], to: usize) -> usize {
+    fn put(left: &[u8], room: &mut [u8], to: usize) -> usize {
         for i in 0..Record::ENTRY {
-            room[to + i] = byte_at(text, at, i + 1);
+            room[to + i] = byte_at(left, i + 1);
         }
         to + Record::ENTRY
     }
 }
 
-// A frame that was found: its place, and the place behind it.
+// A frame that was found: its place, and the place behind it. Places and not slices, since the loop goes on from one.
 #[derive(Clone, Copy)]
 struct Found {
     at: usize,
@@ -92,7 +93,7 @@ fn find(text: &[u8], from: usize, kind: Kind) -> Option<Found>
 {
     let mut at = from;
     while at < text.len() {
-        let here = kind_at(text, at);
+        let here = kind_at(&text[at..]);
         let next = at + 2 * payload(here as usize) + 5;
         if here == kind {
             return Some(Found { at, next });
@@ -110,7 +111,7 @@ pub(crate) fn store<T: Held>(text: &[u8], room: &mut [T])
     let mut from = 0;
     let mut to = 0;
     while let Some(found) = find(text, from, T::kind()) {
-        to = T::put(text, found.at, room, to);
+        to = T::put(&text[found.at..], room, to);
         from = found.next;
     }
 }

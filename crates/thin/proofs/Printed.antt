@@ -14,4 +14,4 @@ pub all_printed : (input out out' : List ℕ) (r : Result ℕ Refusal) → Thins
     → shown r (length out) ≡ length (thin_printed (first (thin_rows input)) (bones_in (lines_of input)) (threshold_in (lines_of input)) (links_in (lines_of input)))
 all_printed input out out' r a wide =
     let answered = thin_room input out out' r a wide in
-    ap (λ (s : Result ℕ Refusal). shown s (length out)) answered ∙ shown_all _ (length out) (thin_count_fits input out out' r a wide _ answered)
+    ap (λ (s : Result ℕ Refusal). shown s (length out)) answered ∙ shown_all Refusal _ (length out) (thin_count_fits input out out' r a wide _ answered)

@@ -24,12 +24,12 @@ use Rattle.weighing.proofs.Searching.{Light, weight_on, Agree, Contracted, heads
 use Rattle.weighing.specs.Lists.{listed, Once, marked}
 use Rattle.weighing.specs.Scan.{Passed}
 use Rattle.weighing.specs.declared.scan.Pass.{Pass}
-use Rattle.weighing.specs.Merge.{Merges, none, more, MergesIn, FoldedIn, Stacked, unmarked, LongIn, LaidOut}
+use Rattle.weighing.specs.Merge.{Merges, none, more, MergesIn, FoldedIn, Stacked, unmarked, LaidOut}
 use Rattle.weighing.specs.declared.list.Blocks.{Blocks}
 use Rattle.weighing.specs.Moved.{Spread}
 
 -- the tallies of a pile fit where all do
-pub small_fits : (n : ℕ) → n ≤ 128 → (t : List ℕ) (L : Bones) → ((b : ℕ) → T (L b) → b < n) → Small n t → bulk (held t) L < 2 ^ 32
+small_fits : (n : ℕ) → n ≤ 128 → (t : List ℕ) (L : Bones) → ((b : ℕ) → T (L b) → b < n) → Small n t → bulk (held t) L < 2 ^ 32
 unfolding bulk
 small_fits n few t L below small =
     omega (
@@ -76,12 +76,11 @@ module _ (n k : ℕ) (w : Tally) (symmetric : Symmetric w) (h : Heap) (p : ℕ) 
       }
 
 -- before pile p: every pile from `from` on is firm, and the table is as it was
-pub record Piling (bones k : ℕ) (names : List ℕ) (from : ℕ) (t₀ t : List ℕ) (b : Blocks) (joins : List Bool) (p : ℕ) : Type 0 where
+pub record Piling (bones k : ℕ) (names : List ℕ) (from : ℕ) (t₀ t : List ℕ) (joins : List Bool) (p : ℕ) : Type 0 where
   pub few : bones ≤ 128
   pub same : t ≡ t₀
   pub begun : from ≤ p
   pub table_long : length t ≡ 16384
-  pub long : LongIn b
   pub joins_long : length joins ≡ 128
   pub firm_before : Small bones t₀ → FirmPiles bones (held t₀) k (heap_of names) from p
 
@@ -93,47 +92,44 @@ pub record Passing (bones k : ℕ) (names t₀ t : List ℕ) (b : Blocks) (joins
   pub whole : listed b.list b.size ≡ pile bones (heap_of names) p
   pub next : seed < b.count
   pub table_long : length t ≡ 16384
-  pub long : LongIn b
   pub joins_long : length joins ≡ 128
 
-pub piling_start : (bones k : ℕ) (names : List ℕ) (from : ℕ) (t : List ℕ) → bones ≤ 128 → length t ≡ 16384 → {b : Blocks} → LongIn b → Piling bones k names from t t b (replicate 128 false) from
+pub piling_start : (bones k : ℕ) (names : List ℕ) (from : ℕ) (t : List ℕ) → bones ≤ 128 → length t ≡ 16384 → Piling bones k names from t t (replicate 128 false) from
 unfolding FirmPiles
-piling_start bones k names from t few table long =
+piling_start bones k names from t few table =
     record {
       few = few;
       same = refl;
       begun = omega arith;
       table_long = table;
-      long = long;
       joins_long = length-replicate 128 false;
       firm_before = λ small q h l. absurd (omega arith);
     }
 
-module _ {bones k : ℕ} {names : List ℕ} {from : ℕ} {t₀ t : List ℕ} {b : Blocks} {joins : List Bool} {p : ℕ} (s : Piling bones k names from t₀ t b joins p) where
+module _ {bones k : ℕ} {names : List ℕ} {from : ℕ} {t₀ t : List ℕ} {joins : List Bool} {p : ℕ} (s : Piling bones k names from t₀ t joins p) where
   -- the pile p is firm, or stands not: on to the next, with the table as it was
-  piling_on : {t' : List ℕ} {b' : Blocks} {joins' : List Bool} → t' ≡ t → LongIn b' → length joins' ≡ 128
+  piling_on : {t' : List ℕ} {joins' : List Bool} → t' ≡ t → length joins' ≡ 128
       → (Small bones t₀ → T (stands bones (heap_of names) p) → T (firm bones (held t₀) k (pile bones (heap_of names) p)))
-      → Piling bones k names from t₀ t' b' joins' (p + 1)
+      → Piling bones k names from t₀ t' joins' (p + 1)
   unfolding FirmPiles
-  piling_on back long joins_long here =
+  piling_on back joins_long here =
       record {
         few = s.few;
         same = back ∙ s.same;
         begun = omega (arith, s.begun);
         table_long = ap length back ∙ s.table_long;
-        long = long;
         joins_long = joins_long;
         firm_before = λ small q low high. elim (ℕ_discrete q p) [ yes e ↦ rw e (here small) | no n ↦ s.firm_before small q low (omega arith) ];
       }
 
   -- no pile is named p
-  pub piling_skip : (heap_of names p ≡ p → ⊥) → Piling bones k names from t₀ t b joins (p + 1)
+  pub piling_skip : (heap_of names p ≡ p → ⊥) → Piling bones k names from t₀ t joins (p + 1)
   unfolding stands
-  piling_skip other = piling_on refl s.long s.joins_long (λ small q. absurd (other (pile_name bones (heap_of names) p p q)))
+  piling_skip other = piling_on refl s.joins_long (λ small q. absurd (other (pile_name bones (heap_of names) p p q)))
 
   -- the passes over the pile p begin
-  pub passing_start : p < bones → heap_of names p ≡ p → {b' : Blocks} → Once b'.list b'.size → b'.count ≡ b'.size → LongIn b' → Agree (listed b'.list b'.size) (pile bones (heap_of names) p) → Passing bones k names t t b' joins p 0
-  passing_start low named {b'} once each long of =
+  pub passing_start : p < bones → heap_of names p ≡ p → {b' : Blocks} → Once b'.list b'.size → b'.count ≡ b'.size → Agree (listed b'.list b'.size) (pile bones (heap_of names) p) → Passing bones k names t t b' joins p 0
+  passing_start low named {b'} once each of =
       let (i, below, is) = listed-place b'.list b'.size p (rw of (pile_intro bones (heap_of names) p p low named)) in
       record {
         few = s.few;
@@ -149,7 +145,6 @@ module _ {bones k : ℕ} {names : List ℕ} {from : ℕ} {t₀ t : List ℕ} {b 
         whole = fun_ext of;
         next = omega arith;
         table_long = s.table_long;
-        long = long;
         joins_long = s.joins_long;
       }
 
@@ -163,11 +158,11 @@ merges_long : {list into start t t' : List ℕ} {hi lo : ℕ} → length t ≡ 1
 merges_long long none = long
 merges_long long (more m row) = row.long'
 
-module _ {bones k : ℕ} {names t t' : List ℕ} {b : Blocks} {joins : List Bool} {p seed : ℕ} (m : Passing bones k names t t' b joins p seed) {order : List ℕ} {joins' : List Bool} {split : Option Pass} (pass : Passed (held t') k b.list order joins' b.count split) where
-  -- between two passes the blocks can be undone, and their marks spread
-  pub passing_stacked : Stacked b
-  passing_stacked = record { few = m.blocks.few; once = m.blocks.once; folded = m.blocks.folded }
+-- between two passes the blocks can be undone, and their marks spread
+pub passing_stacked : {bones k : ℕ} {names t t' : List ℕ} {b : Blocks} {joins : List Bool} {p seed : ℕ} → Passing bones k names t t' b joins p seed → Stacked b
+passing_stacked m = record { few = m.blocks.few; once = m.blocks.once; folded = m.blocks.folded }
 
+module _ {bones k : ℕ} {names t t' : List ℕ} {b : Blocks} {joins : List Bool} {p seed : ℕ} (m : Passing bones k names t t' b joins p seed) {order : List ℕ} {joins' : List Bool} {split : Option Pass} (pass : Passed (held t') k b.list order joins' b.count split) where
   -- what was laid out can be merged
   pub passing_laid : {b' : Blocks} {heads : ℕ} → split ≡ None → heads ≡ unmarked joins' (b.count - 1) + 1 → LaidOut order joins' heads b b' → (heads ≤ b'.count) × Once b'.list b'.count × FoldedIn b' heads b'.count
   passing_laid dark is (laid, same, _) = rw same (heads_few m.blocks pass dark is, laid.once, laid.folded)
@@ -183,11 +178,10 @@ module _ {bones k : ℕ} {names t t' : List ℕ} {b : Blocks} {joins : List Bool
         whole = rw whole (sym (later_same m.blocks pass dark is laid b.size m.blocks.few) ∙ m.whole);
         next = omega arith;
         table_long = merges_long m.table_long merges;
-        long = laid.long;
         joins_long = pass.ordered.long;
       })
 
-  module _ {from : ℕ} {t₀ : List ℕ} {b₀ : Blocks} {joins₀ : List Bool} (s : Piling bones k names from t₀ t b₀ joins₀ p) where
+  module _ {from : ℕ} {t₀ : List ℕ} {joins₀ : List Bool} (s : Piling bones k names from t₀ t joins₀ p) where
     below : (x : ℕ) → T (listed b.list b.size x) → x < bones
     below = rw m.whole (pile_bone bones (heap_of names) p)
 
@@ -195,9 +189,9 @@ module _ {bones k : ℕ} {names t t' : List ℕ} {b : Blocks} {joins : List Bool
     fits_at = small_fits bones s.few t (listed b.list b.size) below
 
     -- the pile is firm
-    pub piling_next : {heads : ℕ} {t'' : List ℕ} → split ≡ None → heads ≡ unmarked joins' (b.count - 1) + 1 → heads ≡ 1 → t'' ≡ t → Piling bones k names from t₀ t'' b joins' (p + 1)
+    pub piling_next : {heads : ℕ} {t'' : List ℕ} → split ≡ None → heads ≡ unmarked joins' (b.count - 1) + 1 → heads ≡ 1 → t'' ≡ t → Piling bones k names from t₀ t'' joins' (p + 1)
     piling_next dark is one back =
-        piling_on s back m.long pass.ordered.long
+        piling_on s back pass.ordered.long
         (rw (← s.same) (λ small q. rw m.whole at (pass_firm m.blocks pass bones s.few below dark (sym is ∙ one) (fits_at small))))
 
     -- a light split: the cut of this pile, those before it being firm

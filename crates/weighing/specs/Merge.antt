@@ -88,10 +88,6 @@ pub record Laid (order : List ℕ) (joins : List Bool) (count heads : ℕ) (list
   pub long : Long list into start
   pub rest : (j : ℕ) → count ≤ j → (slice_index list j ≡ slice_index list₀ j) × (slice_index into j ≡ slice_index into₀ j) × (slice_index start j ≡ slice_index start₀ j)
 
--- the runs of blocks have a place for each of 128 bones
-abbrev pub LongIn : Blocks → Type 0
-LongIn b = Long b.list b.into b.start
-
 -- the same of blocks, which are as many as before until they are merged
 abbrev pub LaidOut : List ℕ → List Bool → ℕ → Blocks → Blocks → Type 0
 LaidOut order joins heads b b' = Laid order joins b.count heads b.list b.into b.start b'.list b'.into b'.start × (b'.count ≡ b.count) × (b'.size ≡ b.size)

@@ -1,5 +1,6 @@
 // Degrees: each bone's tally with the other bones of its pile. They are noted once and kept from cut to cut, and tell where to look first.
 // The notes are a hint: the cut that parts a bone from its pile sums up its true tally again.
+// A cast here loses nothing, as is proved; std has no `From` between these widths, and `try_from` would have a case that never comes.
 ghost use Rattle.std.specs.Prelude.{◌≡◌, ℕ, ◌+◌, ◌*◌, ◌%◌, ◌^◌, ◌<◌, ◌≤◌, min, if◌then◌else◌, is_some};
 ghost use Rattle.meaning.specs.Count.{some};
 ghost use Rattle.links.specs.Table.{held};
@@ -76,6 +77,7 @@ fn tally_with(table: &[u32; 16384], names: &[u8; 128], name: u8, b: usize, c: us
 }
 
 // The tally of bone b with the other bones that bear the name, each of which loses its part of it.
+// Table, piles and degrees stay parameters: only the degrees change, and a struct of them would be taken apart in each call.
 fn take_out(
     table: &[u32; 16384],
     piles: &Piles,
@@ -102,6 +104,7 @@ fn part(table: &[u32; 16384], piles: &Piles, y: u8, b: usize, degrees: &mut [u32
     requires { b < 128 }
     ensures { Loses (parting piles.now.bones (held table.now) (others (heap piles.now) y b) b) degrees.old degrees.new }
 {
+    // The carry of 32 bits is thrown away before the cast.
     let own = take_out(table, piles, y, b, degrees) % 4294967296;
     degrees[b] = degrees[b].wrapping_sub(own as u32);
 }

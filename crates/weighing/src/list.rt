@@ -1,8 +1,9 @@
 // The bones of a pile in a list, and how a list is laid out after a pass.
+// A cast here loses nothing, as is proved; std has no `From` between these widths, and `try_from` would have a case that never comes.
 ghost use Rattle.std.specs.Prelude.{◌≡◌, ℕ, ◌+◌, ◌-◌, ◌<◌, ◌≤◌, slice_index};
 ghost use Rattle.weighing.specs.Piles.{pile_in};
 ghost use Rattle.weighing.specs.Lists.{listed, Once, swapped};
-ghost use Rattle.weighing.specs.Merge.{unmarked, LongIn, LaidOut};
+ghost use Rattle.weighing.specs.Merge.{unmarked, LaidOut};
 
 use crate::piles::Piles;
 
@@ -16,6 +17,7 @@ fn is_in(piles: &Piles, p: usize, b: usize) -> bool
 
 // The bones of a pile, cut into blocks: those in the first `count` places of the list lead one each, and each of the others, of which the last stands
 // in place size − 1, was merged into its head, a bone that stands before the place where its group starts.
+// Its arrays have counts beside them, since nothing here allocates; a bone's head and where its group starts stand in the place of the bone.
 #[derive(Clone, Copy, PartialEq, Eq)]
 pub(crate) struct Blocks {
     pub(crate) list: [u8; 128],
@@ -26,9 +28,7 @@ pub(crate) struct Blocks {
 }
 
 impl Blocks {
-    pub(crate) fn none() -> Self
-        ensures { LongIn result }
-    {
+    pub(crate) fn none() -> Self {
         Blocks {
             list: [0; 128],
             into: [0; 128],
@@ -40,8 +40,7 @@ impl Blocks {
 
     // The bones of the pile named p, in order, each of which leads a block. Each bone is put in the next place, and stays where it is in the pile.
     pub(crate) fn gather(&mut self, piles: &Piles, p: usize)
-        requires { LongIn self.old }
-        ensures once { Once self.new.list self.new.size × (self.new.size ≤ piles.now.bones) × (self.new.count ≡ self.new.size) × LongIn self.new }
+        ensures once { Once self.new.list self.new.size × (self.new.size ≤ piles.now.bones) × (self.new.count ≡ self.new.size) }
         ensures by_index { (b : ℕ) → listed self.new.list self.new.size b ≡ pile_in piles.now p b }
     {
         let mut m = 0;
@@ -56,8 +55,7 @@ impl Blocks {
     // The bones of a pass, the one taken first in the last place, laid out: heads first, then the others behind each other, group by group, with the
     // head of each and the place where its group starts.
     pub(crate) fn lay(&mut self, order: &[u8; 128], joins: &[bool; 128], heads: usize)
-        requires count_nonzero { (0 < self.old.count) × Once order.now self.old.count × (heads ≡ unmarked joins.now (self.old.count - 1) + 1) }
-        requires long { LongIn self.old }
+        requires { (0 < self.old.count) × Once order.now self.old.count × (heads ≡ unmarked joins.now (self.old.count - 1) + 1) }
         ensures { LaidOut order.now joins.now heads self.old self.new }
     {
         let last = self.count - 1;

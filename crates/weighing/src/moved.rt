@@ -1,4 +1,5 @@
 // The side of a light split: the free bones of a pass with all that were merged into them, as marks, and then as the bytes of a side.
+// A cast here loses nothing, as is proved; std has no `From` between these widths, and `try_from` would have a case that never comes.
 ghost use Rattle.std.specs.Prelude.{◌≡◌, ℕ, ◌<◌, ◌≤◌, not, ◌&&◌, ◌||◌, T, length, ◌==◌, slice_index};
 ghost use Rattle.std.specs.Bool.{beq};
 ghost use Rattle.weighing.specs.Side.{side_of};

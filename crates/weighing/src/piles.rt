@@ -1,4 +1,5 @@
 // The piles of a heap, as what is lent tells them: the name of each bone's pile, and how many bones there are.
+// The public functions take names and a count, which docs/PROMISES.md names.
 ghost use Rattle.std.specs.Prelude.{◌≡◌, ◌≤◌, min};
 
 #[derive(Clone, Copy)]

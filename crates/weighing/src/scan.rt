@@ -75,6 +75,7 @@ pub(crate) struct Pass {
 
 // One pass, from the bone in the place `seed` on. The bones taken stand behind those that are free, the one taken last first. A bone is tied to the one
 // taken before it where its tally to those taken is k or more.
+// Order, joins and count are no struct: what is known of the order is known of another count after each bone, and a pass changes both arrays.
 pub(crate) fn scan(
     table: &[u32; 16384],
     order: &mut [u8; 128],

@@ -1,5 +1,6 @@
 // The search for a light split among the piles of a heap. Blocks of bones that no light split parts are merged in the pair table while a pile is
 // searched, and taken back out, so that a pass costs what its blocks cost and the table comes back as it was.
+// A cast here loses nothing, as is proved; std has no `From` between these widths, and `try_from` would have a case that never comes.
 ghost use Rattle.std.specs.Prelude.{◌≡◌, min};
 ghost use Rattle.links.specs.Table.{held};
 ghost use Rattle.weighing.specs.Side.{heap_of};
@@ -34,11 +35,12 @@ pub fn search(
 {
     let piles = Piles::new(names, n);
     let mut blocks = Blocks::none();
+    // Order and pass are set before the loops and not handed out by break: docs/PROMISES.md names that line as it stands.
     let mut order = [0; 128];
     let mut joins = [false; 128];
     let mut got = Pass { weight: 0, left: 0 };
     let mut p = from;
-    // The piles are counted by hand: a light split ends both loops at once, with the pile and its blocks as they stand.
+    // The piles are counted by hand: docs/PROMISES.md names the form of these two loops and of the line that leaves both.
     'piles: loop {
         if piles.bones <= p {
             return None;

@@ -4,4 +4,4 @@ use Rattle.shell.proofs.Printing.{least}
 use Rattle.shell.proofs.output.print.Goals as goal
 
 pub slice_bounds-write_all-end : goal.slice_bounds-write_all-end
-slice_bounds-write_all-end c = sym (length-take-le _ _ (omega (arith, c.to_print-end.ensures, least c.args.answered (length c.args.out.now))))
+slice_bounds-write_all-end g c = sym (length-take-le _ _ (omega (arith, c.to_print-end.ensures, least c.args.answered (length c.args.out.now))))

@@ -8,7 +8,7 @@ loop-i-init c = adding_none _ _
 
 pub loop-i-preserved : goal.loop-i-preserved
 loop-i-preserved c =
-    adding_more c.args.text.now c.args.at c.args.size c.loop-i.i c.loop-i.sum c.loop-i.bad c.unwrap_or-high.result c.unwrap_or-low.result _
+    adding_more c.args.left.now c.args.size c.loop-i.i c.loop-i.sum c.loop-i.bad c.unwrap_or-high.result c.unwrap_or-low.result _
     c.requires c.loop-i-test.true c.loop-i.invariant
     (digit_told _ _ _ c.value.ensures c.unwrap_or-high.ensures) (digit_told _ _ _ c.value-in-loop-i.ensures c.unwrap_or-low.ensures) c.add_byte-sum.ensures
 

@@ -1,6 +1,6 @@
 -- `weighing::degrees::lone` meets its contract: the cut is lawful where the tests say that it is to be made.
 -- Assumes nothing.
-use Rattle.std.proofs.Common.{◌≡◌, ◌<◌, ℕ, true, sym, refl, ◌∙◌, arith, le-ltb, lt-ltb}
+use Rattle.std.proofs.Common.{◌≡◌, ◌<◌, ℕ, Bool, true, sym, refl, ◌∙◌, arith, le-ltb, lt-ltb}
 use Rattle.meaning.proofs.Tests.{holds}
 use Rattle.links.specs.Table.{held}
 use Rattle.links.proofs.TableHeld.{held_symmetric}
@@ -11,21 +11,24 @@ use Rattle.weighing.specs.declared.piles.Piles.{Piles}
 use Rattle.weighing.proofs.Noting.{joined_low, loosed, less_same, less_none}
 use Rattle.weighing.proofs.degrees.lone.Goals as goal
 
--- a bone that has mates is below n
-below : (s : Piles) (u : ℕ) → true ≡ joined s.bones (heap s) u → (u < s.bones) × (u < 128)
-below s u e = let low = joined_low s.bones (heap s) u (holds (sym e)) in (low, omega (arith, s.few))
+-- a bone that was found to have mates is one of the bones of the piles, and so below 128
+among : (s : Piles) {u : ℕ} {mates : Bool} → mates ≡ joined s.bones (heap s) u → mates ≡ true → u < s.bones
+among s {u} is so = joined_low s.bones (heap s) u (holds (sym is ∙ so))
+
+below : (s : Piles) {u : ℕ} {mates : Bool} → mates ≡ joined s.bones (heap s) u → mates ≡ true → u < 128
+below s is so = omega (arith, s.few, among s is so)
 
 pub bounds-piles-u : goal.bounds-piles-u
-bounds-piles-u c = (below c.new-piles.result c.args.u (sym c.if-has_mates.true ∙ c.has_mates.ensures)).1
+bounds-piles-u c = below c.new-piles.result c.has_mates.ensures c.if-has_mates.true
 
 pub take_out-weight-requires : goal.take_out-weight-requires
-take_out-weight-requires c = (below c.new-piles.result c.args.u (sym c.if-has_mates.true ∙ c.has_mates.ensures)).1
+take_out-weight-requires c = below c.new-piles.result c.has_mates.ensures c.if-has_mates.true
 
 pub bounds-piles-u-then-weight-k : goal.bounds-piles-u-then-weight-k
-bounds-piles-u-then-weight-k c = (below c.new-piles.result c.args.u (sym c.if-has_mates.true ∙ c.has_mates.ensures)).1
+bounds-piles-u-then-weight-k c = below c.new-piles.result c.has_mates.ensures c.if-has_mates.true
 
 pub lone_side-requires : goal.lone_side-requires
-lone_side-requires c = (below c.new-piles.result c.args.u (sym c.if-has_mates.true ∙ c.has_mates.ensures)).0
+lone_side-requires c = among c.new-piles.result c.has_mates.ensures c.if-has_mates.true
 
 pub returns-then-weight-k : goal.returns-then-weight-k
 unfolding loose heap_of degree mate Loosed without

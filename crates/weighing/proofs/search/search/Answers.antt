@@ -9,7 +9,7 @@ use Rattle.weighing.proofs.search.search.Goals as goal
 
 pub piles-init : goal.piles-init
 unfolding heap_of
-piles-init c = piling_start _ _ _ _ _ (omega arith) (omega arith) c.none-blocks.ensures
+piles-init c = piling_start _ _ _ _ _ (omega arith) (omega arith)
 
 pub returns-then-piles-p : goal.returns-then-piles-p
 unfolding heap_of
@@ -23,14 +23,11 @@ pub piles-preserved-then-from-p : goal.piles-preserved-then-from-p
 unfolding heap_of
 piles-preserved-then-from-p c = piling_skip c.piles.invariant (λ q. c.if-from-p.true (c.from.ensures ∙ q))
 
-pub gather-requires : goal.gather-requires
-gather-requires c = c.piles.invariant.long
-
 pub passes-init : goal.passes-init
 unfolding heap_of
 passes-init c =
     let so = c.gather.ensures.once in
-    passing_start c.piles.invariant (omega arith) (sym c.from.ensures ∙ c.if-from-p.false) so.0 so.2 so.3 c.gather.ensures.by_index
+    passing_start c.piles.invariant (omega arith) (sym c.from.ensures ∙ c.if-from-p.false) so.0 so.2 c.gather.ensures.by_index
 
 pub scan-requires : goal.scan-requires
 unfolding heap_of
@@ -49,7 +46,7 @@ unfolding heap_of
 passes-preserved c = passing_next c.passes.invariant c.scan.ensures c.in_default.is c.count_heads-heads.ensures c.lay.ensures c.merge.ensures.merged c.merge.ensures.fewer
 
 pub undo-requires : goal.undo-requires
-undo-requires c = passing_stacked c.passes.invariant c.scan.ensures
+undo-requires c = passing_stacked c.passes.invariant
 
 pub piles-preserved : goal.piles-preserved
 unfolding heap_of
@@ -61,10 +58,10 @@ pub spread-marks-requires : goal.spread-marks-requires
 unfolding heap_of
 spread-marks-requires c =
     let taken = (rw c.in-Some.is at c.scan.ensures.found).1 in
-    (once_less c.scan.ensures.ordered.once (omega arith), passing_stacked c.passes.invariant c.scan.ensures)
+    (once_less c.scan.ensures.ordered.once (omega arith), passing_stacked c.passes.invariant)
 
 pub undo-requires-2 : goal.undo-requires-2
-undo-requires-2 c = passing_stacked c.passes.invariant c.scan.ensures
+undo-requires-2 c = passing_stacked c.passes.invariant
 
 pub returns : goal.returns
 unfolding heap_of

@@ -9,7 +9,7 @@ abbrev pub decreases-passes : goal.decreases-passes
 decreases-passes l = l.blocks.count
 
 abbrev pub invariant-piles : goal.invariant-piles
-invariant-piles l = Piling l.piles.bones l.k l.piles.names.now l.from l.initial.table l.table l.blocks l.joins l.p
+invariant-piles l = Piling l.piles.bones l.k l.piles.names.now l.from l.initial.table l.table l.joins l.p
 
 abbrev pub decreases-piles : goal.decreases-piles
 decreases-piles l = l.piles.bones - l.p

@@ -6,15 +6,15 @@ use Rattle.texts.proofs.Walks.{within}
 use Rattle.texts.proofs.store.LinkHeld.put.Goals as goal
 
 pub byte_at-requires : goal.byte_at-requires
-byte_at-requires c = within c.args.text.now c.args.at 2 c.requires.well c.requires.kind 1 (omega arith)
+byte_at-requires c = within c.args.left.now 2 c.requires.well c.requires.kind 1 (omega arith)
 
 pub byte_at-requires-2 : goal.byte_at-requires-2
-byte_at-requires-2 c = within c.args.text.now c.args.at 2 c.requires.well c.requires.kind 2 (omega arith)
+byte_at-requires-2 c = within c.args.left.now 2 c.requires.well c.requires.kind 2 (omega arith)
 
 pub number_at-requires : goal.number_at-requires
 number_at-requires c =
-    let high = within c.args.text.now c.args.at 2 c.requires.well c.requires.kind 3 (omega arith) in
-    let low = within c.args.text.now c.args.at 2 c.requires.well c.requires.kind 4 (omega arith) in
+    let high = within c.args.left.now 2 c.requires.well c.requires.kind 3 (omega arith) in
+    let low = within c.args.left.now 2 c.requires.well c.requires.kind 4 (omega arith) in
     (omega (arith, low.0), high.1, low.1)
 
 pub returns-clause-room_after : goal.returns-clause-room_after

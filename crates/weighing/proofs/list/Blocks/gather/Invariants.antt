@@ -1,7 +1,6 @@
-use Rattle.std.proofs.Common.{◌≡◌, length}
 use Rattle.weighing.specs.Piles.{pile_in}
 use Rattle.weighing.proofs.Laying.{Gathered}
 use Rattle.weighing.proofs.list.Blocks.gather.Given as goal
 
 abbrev pub invariant-loop-b : goal.invariant-loop-b
-invariant-loop-b l = Gathered (pile_in l.piles l.p) l.self.list l.m l.b × (length l.self.into ≡ 128) × (length l.self.start ≡ 128)
+invariant-loop-b l = Gathered (pile_in l.piles l.p) l.self.list l.m l.b
