@@ -1,8 +1,7 @@
 -- No text that a program may print has a character other than the digits 0 to 9 and a to f and the line feed: `only_letters` of bones, `thin_letters` of thin.
 -- Assumes nothing.
-use Rattle.std.proofs.Common.{ℕ, zero, suc, ◌+◌, ◌*◌, ◌-◌, ◌≤◌, ◌<◌, ◌≡◌, refl, sym, subst, arith, rules, le_refl, true, List, [], ◌∷◌, ◌++◌, length, take, drop, T, eqb, Result, Ok, Err}
+use Rattle.std.proofs.Common.{ℕ, zero, suc, ◌+◌, ◌*◌, ◌-◌, ◌≤◌, ◌<◌, ◌≡◌, refl, sym, subst, arith, le_refl, true, List, [], ◌∷◌, ◌++◌, length, take, drop, T, eqb, Result, Ok, Err}
 use Rattle.meaning.specs.declared.Link.{Link}
-use Rattle.meaning.specs.declared.Row.{Row}
 use Rattle.meaning.specs.declared.Refusal.{Refusal}
 use Rattle.meaning.specs.Bytes.{Bytes}
 use Rattle.meaning.specs.Judge.{Judged, Accepted, first, number_of}

@@ -5,7 +5,7 @@ use mathlib.Core.Path.{◌≡◌}
 use mathlib.Core.List.{List}
 use lib.ListN.{length, replicate, length-replicate}
 use Rattle.meaning.specs.declared.Link.{Link}
-use Rattle.links.specs.Records.{no_link}
+use Rattle.links.specs.Forms.{no_link}
 use Rattle.cutting.specs.Record.{entry_size}
 
 -- links, as many as a text may have

@@ -5,14 +5,15 @@ use Rattle.meaning.specs.declared.Link.{Link}
 use Rattle.meaning.specs.declared.Row.TheVariants.{LinkSpace}
 use Rattle.meaning.specs.declared.Refusal.{Refusal}
 use Rattle.meaning.specs.Judge.{Judged, Accepted, Refused, answered, refuse, first}
-use Rattle.meaning.specs.Room.{over}
+use Rattle.meaning.specs.Room.{over, settled}
 use Rattle.meaning.proofs.Room.{settled_new, settled_was}
 use Rattle.meaning.specs.Tally.{Tally, pair_tally}
 use Rattle.meaning.specs.Firm.{label}
 use Rattle.meaning.specs.Heap.{Heap}
 use Rattle.weighing.specs.Side.{heap_of}
 use Rattle.links.specs.Links.{links_of, link_bytes, whole, table_rows}
-use Rattle.links.specs.Records.{same_label, kept_links, front, KeepsLinks}
+use Rattle.links.specs.Records.{same_label, kept_links}
+use Rattle.links.specs.Forms.{front, KeepsLinks}
 use Rattle.links.proofs.LinksBytes.{length-links_of}
 use Rattle.links.proofs.LinksRows.{Propers, first_accepted, first-refused, table_counted, table_proper}
 use Rattle.links.proofs.RecordsKept.{kept_few}
@@ -21,7 +22,7 @@ use Rattle.cutting.specs.Names.{names}
 use Rattle.cutting.proofs.Names.{names_at}
 use Rattle.cutting.specs.Above.{LabelsOf}
 use Rattle.cutting.specs.Calls.{kept, Thins, ThinningIn, ThinningBytes, ThinningRecords}
-use Rattle.cutting.proofs.Alike.{label_alike}
+use Rattle.cutting.proofs.Alike.{label_alike, Alike}
 use Rattle.cutting.proofs.Judged.{Filled}
 
 -- ---- the links kept
@@ -73,6 +74,15 @@ module _ {A : Type 0} (form : List Link → List A) (rows : List Judged) (n : �
             ∙ ap (λ (ls : List Link). over space 0 (form ls)) same
             ∙ sym (settled_new space _ e);
       }
+
+pub thins_alike : {A : Type 0} (form : List Link → List A) (n : ℕ) (v w : Tally) → Alike n v w → (k : ℕ) (rows rows' : List Judged) (links : List Link) (space space' : List A) (r : Result ℕ Refusal)
+    → first rows ≡ first rows' → Thins form rows n v k links space space' r → Thins form rows' n w k links space space' r
+thins_alike form n v w alike k rows rows' links space space' r e t =
+    let same : kept n v k links ≡ kept n w k links = ap (λ (h : Heap). kept_links (names 128 h) links) (label_alike n v w alike k) in
+    record {
+      answer = t.answer ∙ ap₂ (λ (j : Judged) (ls : List Link). answered j (length ls)) e same;
+      links_after = t.links_after ∙ ap₂ (λ (j : Judged) (ls : List Link). settled j space (over space 0 (form ls))) e same;
+    }
 
 module _ (n k : ℕ) (good : Bool) (links : List Link) (room : ℕ) where
   pub thinning_core : first (table_rows n k good links) ≡ Accepted → first (link_row (length links) room ∷ []) ≡ first (thinning_rows n k good links room)

@@ -10,9 +10,9 @@ use native.Mathlib.Numerals.{add-one}
 use native.Mathlib.Omega.{arith}
 use lib.Dec.{T, T_not, not_T}
 use lib.ListN.{length}
-use borrow.Author.Tests.{le-ltb, eq-eqb, lt-leb, leb-false, eqb-true, not-false}
+use borrow.Author.Tests.{le-ltb, eq-eqb, lt-leb, leb-false, eqb-true, not-false, lt-ltb, ne_eqb, le-leb}
 use Rattle.meaning.specs.declared.Row.{Row}
-use Rattle.meaning.specs.declared.Row.TheVariants.{Pile, Side, Weight, NotLight}
+use Rattle.meaning.specs.declared.Row.TheVariants.{Pile, Side, Weight, NotLight, Record}
 use Rattle.meaning.specs.declared.Refusal.{Refusal}
 use Rattle.std.proofs.Common.{Ok, Err}
 use Rattle.meaning.specs.Judge.{Judged, Accepted, Refused, refuse, first}
@@ -95,6 +95,19 @@ module _ (n : ℕ) (w : Tally) (k : ℕ) (h : Heap) (c : Cut) where
       T_not (pile n h c.name r.0) (right_of (c.side r.0) (not (pile n h c.name r.0)) r.2) (law.within r.0 (left_of (c.side r.0) (not (pile n h c.name r.0)) r.2))) in
       simp
       (is_true (stands n h c.name) law.standing, is_true (some 128 c.side) (some_intro 128 c.side moved.0 (omega (arith, moved.1)) moved.2), is_false (c.side c.name) law.staying, is_false (some 128 (λ b. c.side b && not (pile n h c.name b))) stray, eq-eqb c.weighs _ law.true_weight, lt-leb k c.weighs law.light)
+
+  -- the rows, tried in turn
+  pub entry_twelve : (i : ℕ) → stands n h c.name ≡ true → astray n h c.name c.side ≡ false → (c.weighs ≡ weight n w (pile n h c.name) c.side → ⊥) → Refused Weight i ≡ first (entry_rows n w k h i c)
+  unfolding entry_rows refuse first
+  entry_twelve i e f g = rw (e, f, ne_eqb c.weighs (weight n w (pile n h c.name) c.side) g)
+
+  pub entry_thirteen : (i : ℕ) → stands n h c.name ≡ true → astray n h c.name c.side ≡ false → c.weighs ≡ weight n w (pile n h c.name) c.side → k ≤ c.weighs → Refused NotLight i ≡ first (entry_rows n w k h i c)
+  unfolding entry_rows refuse first
+  entry_thirteen i e f g l = rw (e, f, eq-eqb c.weighs (weight n w (pile n h c.name) c.side) g, le-leb k c.weighs l)
+
+  pub entry_sound : (i : ℕ) → stands n h c.name ≡ true → astray n h c.name c.side ≡ false → c.weighs ≡ weight n w (pile n h c.name) c.side → c.weighs < k → Accepted ≡ first (entry_rows n w k h i c)
+  unfolding entry_rows refuse first
+  entry_sound i e f g l = rw (e, f, eq-eqb c.weighs (weight n w (pile n h c.name) c.side) g, lt-leb k c.weighs l)
 
   -- a refusal's place is the entry's own
   pub entry_place : (i : ℕ) (refusal : Refusal) → first (entry_rows n w k h i c) ≡ Err refusal → refusal.place ≡ i
@@ -186,6 +199,14 @@ few_rows n w k bytes few e =
 -- ---- row 9
 
 module _ (n : ℕ) (w : Tally) (k : ℕ) (bytes : List ℕ) where
+  pub record_broken : (length bytes % entry_size ≡ 0 → ⊥) → Refused Record 0 ≡ first (record_rows n w k bytes)
+  unfolding record_rows record_row refuse first
+  record_broken f = rw (ne_eqb (length bytes % entry_size) 0 f)
+
+  pub record_long : length bytes % entry_size ≡ 0 → n - 1 < length bytes / entry_size → Refused Record 0 ≡ first (record_rows n w k bytes)
+  unfolding record_rows record_row refuse first
+  record_long e l = rw (eq-eqb (length bytes % entry_size) 0 e, lt-ltb (n - 1) (length bytes / entry_size) l)
+
   pub record_fits : length bytes % entry_size ≡ 0 → length bytes / entry_size ≤ n - 1 → first (record_rows n w k bytes) ≡ first (entries_rows n w k start 0 (cuts_of bytes))
   unfolding record_rows record_row refuse first
   record_fits e l = rw (eq-eqb (length bytes % entry_size) 0 e, le-ltb (n - 1) (length bytes / entry_size) l)

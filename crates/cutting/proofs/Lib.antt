@@ -22,3 +22,4 @@ pub mod Demands
 pub mod Unique
 pub mod Labelling
 pub mod Keeping
+pub mod JudgedThin

@@ -9,7 +9,7 @@ use native.Mathlib.Nat.{le_refl, not-suc-le-zero}
 use native.Mathlib.Numerals.{add-one}
 use native.Mathlib.Omega.{arith}
 use lib.Dec.{eqb, leb, ltb, leb→le, nleb→lt, ltb→lt, nltb→le}
-use lib.ListN.{length, get_or, take, drop, length-append, get_or-eq_default}
+use lib.ListN.{length, get_or, take, drop, length-append, get_or-eq_default, set}
 use lib.Seq.{take_all, take-append-le, append_snoc, get_or_at, ext_get_or}
 use borrow.Author.Tests.{lt-ltb}
 use Rattle.meaning.specs.Count.{sum, count}
@@ -18,7 +18,7 @@ use Rattle.meaning.proofs.Tests.{decide}
 use Rattle.meaning.proofs.Sums.{sum_ext, count_most}
 use Rattle.meaning.proofs.Sets.{last_or_below}
 use Rattle.meaning.specs.Room.{fitted}
-use Rattle.meaning.proofs.Room.{over_front, fitted_all, fitted_most}
+use Rattle.meaning.proofs.Room.{over_front, fitted_all, fitted_most, fitted_next}
 use Rattle.weighing.specs.Side.{heap_of}
 use Rattle.cutting.specs.Names.{names}
 
@@ -42,6 +42,10 @@ names_at (suc n) h rest b l =
     (λ m. ap (λ (x : List ℕ). get_or x b 0) (append_snoc (names n h) (h n) rest) ∙ names_at n h (h n ∷ rest) b m)
     (last_or_below n l)
 
+pub names_next : (i : ℕ) (h : Heap) → names (i + 1) h ≡ names i h ++ h i ∷ []
+unfolding names
+names_next i h = ap (λ (m : ℕ). names m h) (add-one i)
+
 names-take : (k n : ℕ) (h : Heap) → k ≤ n → take k (names n h) ≡ names k h
 unfolding names
 names-take zero zero h l = refl
@@ -54,6 +58,12 @@ names-take k (suc n) h l =
     (decide (leb k n))
 
 -- ---- names at the front of lent room
+
+-- one name more
+pub fitted_name : (i : ℕ) (h : Heap) (room : List ℕ) → set (fitted room 0 (names i h)) i (h i) ≡ fitted room 0 (names (i + 1) h)
+fitted_name i h room =
+    let e : i ≡ 0 + length (names i h) = omega (arith, length-names i h) in
+    ap (λ (m : ℕ). set (fitted room 0 (names i h)) m (h i)) e ∙ fitted_next room 0 (names i h) (h i) ∙ ap (fitted room 0) (sym (names_next i h))
 
 -- as many as the room takes
 pub fitted-names : (n : ℕ) (h : Heap) (room : List ℕ) → fitted room 0 (names (min n (length room)) h) ≡ fitted room 0 (names n h)
@@ -86,7 +96,6 @@ names_of_heap n xs e =
     ext_get_or 0 (names n (heap_of xs)) xs (length-names n (heap_of xs) ∙ sym e)
     (λ b l. ap (λ (x : List ℕ). get_or x b 0) (sym (append-nil (names n (heap_of xs)))) ∙ names_at n (heap_of xs) [] b (omega (arith, length-names n (heap_of xs))))
 
--- the piles, counted by the bones whose name is their own
 -- the names of the first bones, written to the front of lent room
 pub names_written : (xs : List ℕ) (n : ℕ) (room : List ℕ) (count : ℕ) {new : List ℕ} → length xs ≡ 128 → count ≡ min (min n 128) (length room) → new ≡ take count xs → new ++ drop count room ≡ fitted room 0 (names (min n 128) (heap_of xs))
 names_written xs n room count {new} long few e =
@@ -100,6 +109,7 @@ names_written xs n room count {new} long few e =
     ∙ ap (λ (m : ℕ). fitted room 0 (names m h)) few
     ∙ fitted-names (min n 128) h room
 
+-- the piles, counted by the bones whose name is their own
 pub piles_heads : (n : ℕ) (h : Heap) → piles n h ≡ sum n (λ b. cond (eqb (h b) b) 1 0)
 unfolding piles count stands pile
 piles_heads n h = sum_ext n _ _ (λ b l. ap (λ (t : Bool). cond (t && eqb (h b) b) 1 0) (lt-ltb b n l))

@@ -3,7 +3,7 @@
 use Prim.Native.Nat.{ℕ, zero, suc, ◌/◌, ◌≤◌, ◌<◌, suc-le-suc, zero-le, min}
 use mathlib.Core.Path.{◌≡◌, refl, ◌∙◌, ap, ap₂, fun_ext}
 use mathlib.Core.Logic.{⊎_elim}
-use mathlib.Core.Bool.{Bool, cond, not, ◌&&◌}
+use mathlib.Core.Bool.{Bool, cond, not, ◌&&◌, true, false}
 use mathlib.Core.List.{List, [], ◌∷◌}
 use native.Mathlib.Omega.{arith}
 use lib.Dec.{T, ltb, lt→ltb, ltb→lt, nltb→le, T_not, not_T}
@@ -11,7 +11,7 @@ use lib.ListN.{length, get_or, replicate}
 use Rattle.meaning.specs.Count.{Bones, some, least}
 use Rattle.meaning.specs.Judge.{Judged, Accepted}
 use Rattle.meaning.specs.Heap.{Heap, start, Cut, parted, left}
-use Rattle.meaning.proofs.Tests.{decide, is_false, same_test, both, right_of}
+use Rattle.meaning.proofs.Tests.{decide, is_false, same_test, both, right_of, is_true}
 use Rattle.meaning.proofs.Sets.{some_intro, some_elim, least_is}
 use Rattle.weighing.specs.Side.{heap_of}
 use Rattle.cutting.specs.Record.{entry_size, cuts_of}
@@ -33,7 +33,13 @@ least_none zero X f = refl
 least_none (suc n) X f =
     ap₂ (λ (x : Bool) (m : ℕ). cond x 0 (suc m)) (is_false (X 0) (f 0 (suc-le-suc zero-le))) (least_none n (λ c. X (suc c)) (λ c l. f (suc c) (suc-le-suc l)))
 
--- a heap of 128 bones stays one when it is parted, and when a run of cuts parts it
+-- whether some bone passes: one does; and none does
+pub some_here : (n : ℕ) (X : Bones) (b : ℕ) → b < n → T (X b) → some n X ≡ true
+some_here n X b h t = is_true (some n X) (some_intro n X b h t)
+
+pub some_none : (n : ℕ) (X : Bones) → ((c : ℕ) → c < n → T (not (X c))) → some n X ≡ false
+some_none n X f = is_false (some n X) (not_T (some n X) (λ t. let r = some_elim n X t in T_not (X r.0) (f r.0 r.1) r.2))
+
 -- among the bones below n no more is asked of them than that
 pub some_below : (n : ℕ) (X : Bones) → some n (λ b. ltb b n && X b) ≡ some n X
 some_below n X =
@@ -41,6 +47,7 @@ some_below n X =
     (λ t. let r = some_elim n (λ b. ltb b n && X b) t in some_intro n X r.0 r.1 (right_of (ltb r.0 n) (X r.0) r.2))
     (λ t. let r = some_elim n X t in some_intro n (λ b. ltb b n && X b) r.0 r.1 (both (ltb r.0 n) (X r.0) (lt→ltb r.0 n r.1) r.2))
 
+-- a heap of 128 bones stays one when it is parted, and when a run of cuts parts it
 pub parted_within : (n : ℕ) (h : Heap) (c : Cut) → Narrow c → Within 128 h → Within 128 (parted n h c)
 unfolding parted
 parted_within n h c narrow w b l =

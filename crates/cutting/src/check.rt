@@ -18,7 +18,6 @@ use crate::heap::{count_piles, write_names};
 use crate::judging::judge_record;
 use links::form::LinkForm;
 use links::judge::judge_counts;
-use links::table::fill;
 use meaning::{Refusal, Row};
 use weighing::search::search;
 
@@ -76,6 +75,6 @@ pub fn checking<L: LinkForm>(
     ensures { Checking n k (L.are_whole links.now) (L.links_in links.now) «record».now labels.old labels.new result }
 {
     let mut table = [0u32; 16384];
-    fill(n, k, links, &mut table)?;
+    L::fill(n, k, links, &mut table)?;
     check_table(&mut table, n, k, record, labels)
 }

@@ -24,7 +24,6 @@ use crate::judging::judge_record;
 use crate::record::{Record, copy};
 use links::form::LinkForm;
 use links::judge::judge_counts;
-use links::table::fill;
 use meaning::{Refusal, Row};
 
 // An accepted record is put into the record space and finished; the labels are written, and the groups counted. Its parameters are those of `finish`.
@@ -95,6 +94,6 @@ pub fn grouping<L: LinkForm>(
     ensures { Grouping n k (L.are_whole links.now) (L.links_in links.now) «record».now labels.old labels.new space.old space.new result }
 {
     let mut table = [0u32; 16384];
-    fill(n, k, links, &mut table)?;
+    L::fill(n, k, links, &mut table)?;
     group_table(&mut table, n, k, record, labels, space)
 }

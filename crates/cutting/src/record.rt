@@ -44,9 +44,11 @@ impl Record {
 pub fn copy(from: &[u8], to: &mut [u8], at: usize)
     ensures { to.new ≡ fitted to.old at from.now }
 {
-    let at = at.min(to.len());
-    let count = from.len().min(to.len() - at);
-    to[at..at + count].copy_from_slice(&from[..count]);
+    // Byte by byte: with `copy_from_slice` the archive for C asks for `memmove` from outside, and needs no more than `memcpy` and `memset` without it.
+    let count = from.len().min(to.len().saturating_sub(at));
+    for j in 0..count {
+        to[at + j] = from[j];
+    }
 }
 
 // The side that stands from a place on.

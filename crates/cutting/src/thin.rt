@@ -9,7 +9,6 @@ use crate::firm::finish;
 use crate::record::Record;
 use links::form::LinkForm;
 use links::records::keep_links;
-use links::table::fill;
 use meaning::{Refusal, Row};
 
 // The names become the labels: one pile of all bones is cut to the end, from the empty record on, in a record space of its own.
@@ -29,7 +28,7 @@ pub fn thinning<L: LinkForm>(n: u64, k: u64, links: &[L], space: &mut [L]) -> Re
     ensures { ThinningIn L.links_in L.are_whole L.written n k links.now space.old space.new result }
 {
     let mut table = [0u32; 16384];
-    fill(n, k, links, &mut table)?;
+    L::fill(n, k, links, &mut table)?;
     if L::count(space) < L::count(links) {
         return Err(Row::LinkSpace.at(0));
     }

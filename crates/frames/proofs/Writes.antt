@@ -27,7 +27,7 @@ module _ (bytes : List ℕ) (i : ℕ) (h : i < length bytes) where
   next_sum first = sym (sum_snoc (first ∷ take i bytes) (get_or bytes i 0)) ∙ ap (λ (l : List ℕ). byte_sum (first ∷ l)) (sym next_take)
 
 -- the sum's negation is the sum byte
-negated : (bs : List ℕ) (s b : ℕ) → s ≡ byte_sum bs → b < 256 → (b + s) % 256 ≡ 0 → b ≡ sum_byte bs
+pub negated : (bs : List ℕ) (s b : ℕ) → s ≡ byte_sum bs → b < 256 → (b + s) % 256 ≡ 0 → b ≡ sum_byte bs
 unfolding sum_byte
 negated bs s b e h z = omega (arith, sum_bound bs)
 

@@ -51,10 +51,11 @@ pub fn add_byte(sum: u8, byte: u8) -> u8
     sum.wrapping_add(byte)
 }
 
-// Whether a line feed stands behind so many bytes at the front of what is left of a text. Twice the size need not fit a number.
+// Whether a line feed stands behind so many bytes at the front of what is left of a text. Half of what is left is compared, since twice the size
+// need not fit a number.
 #[tactic(auto, unfolding(crate::specs::Characters::feed_at))]
 pub fn feed_at(left: &[u8], size: usize) -> bool
     ensures { result ≡ feed_at left.now size }
 {
-    size.checked_mul(2).and_then(|end| left.get(end)) == Some(&b'\n')
+    size < left.len() - left.len() / 2 && left[2 * size] == b'\n'
 }

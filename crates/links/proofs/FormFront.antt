@@ -1,13 +1,13 @@
 -- Laws of links written to the front of lent room, in either form: one link more behind those that stand there.
 -- Assumes nothing.
-use Rattle.std.proofs.Common.{◌≡◌, ℕ, ◌+◌, ◌*◌, ◌/◌, ◌%◌, ◌<◌, ◌≤◌, List, [], ◌∷◌, ◌++◌, length, take, drop, set, sym, refl, ap, ◌∙◌, ap₂, zero-add, arith, length-append, length-take, take_all}
+use Rattle.std.proofs.Common.{◌≡◌, ℕ, ◌+◌, ◌*◌, ◌/◌, ◌%◌, ◌<◌, ◌≤◌, List, [], ◌∷◌, ◌++◌, length, take, drop, set, sym, refl, ap, ◌∙◌, ap₂, zero-add, arith, length-append, length-take, take_all, get_or, add-zero, length-drop, get_or-drop}
 use lib.Seq.{take-append-le, drop-drop}
 use mathlib.Core.List.{append_assoc}
 use Rattle.meaning.specs.declared.Link.{Link}
 use Rattle.meaning.specs.Room.{over, fitted}
 use Rattle.meaning.proofs.Room.{fitted_next, over_nil, length_over, over_then}
-use Rattle.links.specs.Links.{links_of, link_bytes}
-use Rattle.links.specs.Records.{front}
+use Rattle.links.specs.Links.{links_of, link_bytes, link_at}
+use Rattle.links.specs.Forms.{front}
 use Rattle.links.proofs.LinksBytes.{length-links_of}
 
 -- no link leaves room as it was
@@ -33,10 +33,30 @@ record_next room ls l =
 
 -- ---- bytes, four a link
 
-length-link_bytes : (ls : List Link) → length (link_bytes ls) ≡ length ls * 4
+-- four bytes a link
+pub length-link_bytes : (ls : List Link) → length (link_bytes ls) ≡ length ls * 4
 unfolding link_bytes
 length-link_bytes [] = refl
 length-link_bytes (l ∷ ls) = omega (arith, length-link_bytes ls)
+
+four : (xs : List ℕ) → 4 ≤ length xs → take 4 xs ≡ get_or xs 0 0 ∷ get_or xs 1 0 ∷ get_or xs 2 0 ∷ get_or xs 3 0 ∷ []
+four [] h = absurd (omega arith)
+four (a ∷ []) h = absurd (omega arith)
+four (a ∷ b ∷ []) h = absurd (omega arith)
+four (a ∷ b ∷ c ∷ []) h = absurd (omega arith)
+four (a ∷ b ∷ c ∷ d ∷ rest) h = refl
+
+-- a link read from four bytes is written as the same four
+pub link_bytes_lem : (bytes : List ℕ) (i : ℕ) → i * 4 + 4 ≤ length bytes → ((j : ℕ) → get_or bytes j 0 < 256) → take 4 (drop (i * 4) bytes) ≡ link_bytes (link_at bytes i ∷ [])
+unfolding link_bytes link_at
+link_bytes_lem bytes i h small =
+    let at : (j : ℕ) → get_or (drop (i * 4) bytes) j 0 ≡ get_or bytes (i * 4 + j) 0 = λ j. get_or-drop (i * 4) bytes j 0 in
+    let high = get_or bytes (i * 4 + 2) 0 in
+    let low = get_or bytes (i * 4 + 3) 0 in
+    let x : get_or (drop (i * 4) bytes) 0 0 ≡ get_or bytes (i * 4) 0 = at 0 ∙ ap (λ (m : ℕ). get_or bytes m 0) (add-zero (i * 4)) in
+    let z : get_or (drop (i * 4) bytes) 2 0 ≡ (high * 256 + low) / 256 = omega (arith, at 2, small (i * 4 + 3)) in
+    let v : get_or (drop (i * 4) bytes) 3 0 ≡ (high * 256 + low) % 256 = omega (arith, at 3, small (i * 4 + 3)) in
+    four (drop (i * 4) bytes) (simp length-drop (omega arith)) ∙ (λ k. x k ∷ at 1 k ∷ z k ∷ v k ∷ [])
 
 link_bytes-append : (ls ms : List Link) → link_bytes (ls ++ ms) ≡ link_bytes ls ++ link_bytes ms
 unfolding link_bytes

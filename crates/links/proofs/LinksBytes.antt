@@ -32,7 +32,7 @@ four bytes j h =
     (drop-cons bytes j 0 (omega arith), drop-cons bytes (suc j) 0 (omega arith), drop-cons bytes (suc (suc j)) 0 (omega arith), drop-cons bytes (suc (suc (suc j))) 0 (omega arith)))
 
 -- the links from place i on are the link in that place and those after it; past the last whole link there are none
-links_of_next : (bytes : List ℕ) (i : ℕ) {l : Link} → i < length bytes / 4 → l ≡ link_at bytes i → links_of (drop (i * 4) bytes) ≡ l ∷ links_of (drop ((i + 1) * 4) bytes)
+pub links_of_next : (bytes : List ℕ) (i : ℕ) {l : Link} → i < length bytes / 4 → l ≡ link_at bytes i → links_of (drop (i * 4) bytes) ≡ l ∷ links_of (drop ((i + 1) * 4) bytes)
 unfolding links_of link_at
 links_of_next bytes i {l} h e =
     let step : i * 4 + 4 ≡ (i + 1) * 4 = omega arith in
@@ -40,11 +40,11 @@ links_of_next bytes i {l} h e =
     ∙ ap (λ (j : ℕ). link_at bytes i ∷ links_of (drop j bytes)) step
     ∙ ap (λ (x : Link). x ∷ links_of (drop ((i + 1) * 4) bytes)) (sym e)
 
-links_of_end : (bytes : List ℕ) (i : ℕ) → length bytes / 4 ≤ i → links_of (drop (i * 4) bytes) ≡ []
+pub links_of_end : (bytes : List ℕ) (i : ℕ) → length bytes / 4 ≤ i → links_of (drop (i * 4) bytes) ≡ []
 links_of_end bytes i h = without_link (drop (i * 4) bytes) (omega (arith, length-drop (i * 4) bytes))
 
 -- the same from the list of links: leaving i links out leaves their bytes out, and the link in place i
-links_of-drop : (bytes : List ℕ) (i : ℕ) → links_of (drop (i * 4) bytes) ≡ drop i (links_of bytes)
+pub links_of-drop : (bytes : List ℕ) (i : ℕ) → links_of (drop (i * 4) bytes) ≡ drop i (links_of bytes)
 links_of-drop bytes zero = refl
 links_of-drop bytes (suc i) = one_more (links_of-drop bytes i) (decide (ltb i (length bytes / 4)))
   where
@@ -61,7 +61,7 @@ links_of-drop bytes (suc i) = one_more (links_of-drop bytes i) (decide (ltb i (l
         links_of_end bytes (suc i) (omega (arith, nltb→le i (length bytes / 4) t))
         ∙ sym (drop_of_length-le (links_of bytes) {i = suc i} (omega (arith, length-links_of bytes, nltb→le i (length bytes / 4) t)))
 
-links_of_at : (bytes : List ℕ) (i : ℕ) (d : Link) → i < length bytes / 4 → get_or (links_of bytes) i d ≡ link_at bytes i
+pub links_of_at : (bytes : List ℕ) (i : ℕ) (d : Link) → i < length bytes / 4 → get_or (links_of bytes) i d ≡ link_at bytes i
 links_of_at bytes i d h =
     ap (λ (j : ℕ). get_or (links_of bytes) j d) (sym (add-zero i))
     ∙ sym (get_or-drop i (links_of bytes) 0 d)
@@ -92,7 +92,7 @@ unfoldable pub Short : List Link → Type 0
 Short [] = Unit {0}
 Short (l ∷ ls) = (l.tally < 65536) × Short ls
 
-links_of_short : (bytes : List ℕ) → ((k : ℕ) → get_or bytes k 0 < 256) → Short (links_of bytes)
+pub links_of_short : (bytes : List ℕ) → ((k : ℕ) → get_or bytes k 0 < 256) → Short (links_of bytes)
 unfolding links_of Short
 links_of_short [] f = tt
 links_of_short (a ∷ []) f = tt

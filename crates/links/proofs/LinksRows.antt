@@ -101,7 +101,7 @@ link_accepted n i l e =
       some_tally = omega (arith, eqb-false l.tally 0 six.0);
     }
 
-links_accepted : (n i : ℕ) (ls : List Link) → first (links_rows n i ls) ≡ Accepted → Propers n ls
+pub links_accepted : (n i : ℕ) (ls : List Link) → first (links_rows n i ls) ≡ Accepted → Propers n ls
 unfolding links_rows Propers
 links_accepted n i [] e = tt
 links_accepted n i (l ∷ ls) e = (

@@ -4,7 +4,8 @@ use Rattle.std.proofs.Common.{◌≡◌, ℕ, ◌+◌, ◌<◌, ◌≤◌, Bool,
 use Rattle.std.proofs.lemmas.List.Elements.{filter_more}
 use Rattle.std.proofs.lemmas.List.Sums.{length-filter, count_by-le-length}
 use Rattle.meaning.specs.declared.Link.{Link}
-use Rattle.links.specs.Records.{no_link, same_label, kept_links}
+use Rattle.links.specs.Records.{same_label, kept_links}
+use Rattle.links.specs.Forms.{no_link}
 
 module _ (labels : List ℕ) (links : List Link) (i : ℕ) (h : i < length links) where
   -- the next link, which is kept or not

@@ -45,7 +45,7 @@ unfolding added raised
 length-added t l = simp length-set
 
 -- and after many
-held-tallied : (links : List Link) (t : List ℕ) (i j : ℕ) → length t ≡ 16384 → Propers 128 links → i < 128 → j < 128 → held t i j + pair_tally links i j < 2 ^ 32 → held (tallied t links) i j ≡ held t i j + pair_tally links i j
+pub held-tallied : (links : List Link) (t : List ℕ) (i j : ℕ) → length t ≡ 16384 → Propers 128 links → i < 128 → j < 128 → held t i j + pair_tally links i j < 2 ^ 32 → held (tallied t links) i j ≡ held t i j + pair_tally links i j
 unfolding tallied pair_tally Propers
 held-tallied [] t i j long p hi hj h = sym (add-zero _)
 held-tallied (l ∷ ls) t i j long p hi hj h =
@@ -57,7 +57,7 @@ pair_most : (b : Bool) (x y m : ℕ) → x < 65536 → y ≤ m * 65535 → cond 
 pair_most true x y m h e = omega arith
 pair_most false x y m h e = omega arith
 
-pair_tally_most : (links : List Link) (i j : ℕ) → Short links → pair_tally links i j ≤ length links * 65535
+pub pair_tally_most : (links : List Link) (i j : ℕ) → Short links → pair_tally links i j ≤ length links * 65535
 unfolding pair_tally Short
 pair_tally_most [] i j s = zero-le
 pair_tally_most (l ∷ ls) i j s = pair_most (joins l i j) l.tally _ (length ls) s.0 (pair_tally_most ls i j s.1)

@@ -2,5 +2,7 @@
 pub mod Links
 -- What the promises of link records cite.
 pub mod Records
+-- What the promises over either form of links cite.
+pub mod Forms
 -- What the promises of the pair table cite.
 pub mod Table

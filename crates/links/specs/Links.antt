@@ -1,5 +1,5 @@
 -- Links lent as bytes, and the rows of the refusal table that judge bone count, threshold and links.
-use Rattle.std.specs.Prelude.{ℕ, ◌≡◌, refl, suc, ◌+◌, ◌*◌, ◌/◌, ◌%◌, Bool, not, ◌||◌, List, [], ◌∷◌, ◌++◌, length, ◌==◌, nat_le, nat_lt, slice_index}
+use Rattle.std.specs.Prelude.{ℕ, suc, ◌+◌, ◌*◌, ◌/◌, ◌%◌, Bool, not, ◌||◌, List, [], ◌∷◌, ◌++◌, length, ◌==◌, nat_le, nat_lt, slice_index}
 use Rattle.meaning.specs.declared.Link.{Link}
 use Rattle.meaning.specs.declared.Row.TheVariants.{Bones, Threshold, Links, LinkEnd, EqualEnds, Tally}
 use Rattle.meaning.specs.Judge.{Judged, refuse}
@@ -25,10 +25,6 @@ link_at bytes i =
 unfoldable pub link_bytes : List Link → List ℕ
 link_bytes [] = []
 link_bytes (l ∷ ls) = l.a ∷ l.b ∷ l.tally / 256 ∷ l.tally % 256 ∷ link_bytes ls
-
-pub no_bytes : link_bytes [] ≡ []
-unfolding link_bytes
-no_bytes = refl
 
 -- whether a run of bytes is whole links
 unfoldable pub whole : List ℕ → Bool

@@ -1,21 +1,20 @@
 // The forms in which a run of links is lent: bytes, four a link, or link records. What goes through links is written once, over either form.
-ghost use Rattle.std.specs.Prelude.{◌≡◌, refl, Bool, true, List, [], ◌∷◌, ◌++◌, length, slice_index_or};
+ghost use Rattle.std.specs.Prelude.{◌≡◌, ◌<◌, ◌^◌, refl, Bool, true, OnOk, EachIndex, List, [], ◌∷◌, ◌++◌, length, slice_index_or};
+ghost use Rattle.meaning.specs.Judge.{first};
 ghost use Rattle.meaning.specs.declared.Link.{Link};
-ghost use Rattle.links.specs.Links.{links_of, link_bytes, no_bytes, whole};
-ghost use Rattle.links.specs.Records.{no_link, front};
+ghost use Rattle.links.specs.Links.{links_of, link_bytes, whole, table_rows};
+ghost use Rattle.links.specs.Table.{filled};
+ghost use Rattle.links.specs.Forms.{no_link, no_bytes, front};
 
-use crate::{judge, record};
-use meaning::Link;
+use crate::{judge, record, records, table};
+use meaning::{Link, Refusal};
 
-// What a run of links is made of.
-pub trait LinkForm: Copy {
+// A run of links, as far as its table goes: how many there are, and each of them.
+pub trait LinkRun: Copy {
     // The links that a run means, and whether it is whole links.
     ghost links_in: { List Self → List Link };
 
     ghost are_whole: { List Self → Bool };
-
-    // The run that links are written as.
-    ghost written: { List Link → List Self };
 
     // How many links there are, and whether nothing is left over behind them.
     fn count(links: &[Self]) -> usize
@@ -27,22 +26,32 @@ pub trait LinkForm: Copy {
     // The link in place i; past the last, the link of noughts.
     fn link(links: &[Self], i: usize) -> Link
         ensures { result ≡ slice_index_or (links_in links.now) i no_link };
+}
+
+// What a run of links is made of: it fills a table, and links are put behind one another in the form that it has.
+pub trait LinkForm: LinkRun {
+    // The run that links are written as.
+    ghost written: { List Link → List Self };
+
+    // Judges n, k and the links of a run, and adds the links to the table, as far as they are accepted.
+    fn fill(n: u64, k: u64, links: &[Self], table: &mut [u32; 16384]) -> Result<(), Refusal>
+        ensures value { result ≡ first (table_rows n k (Self.are_whole links.now) (Self.links_in links.now)) }
+        ensures table_after { table.new ≡ filled result table.old (Self.links_in links.now) }
+        ensures tallies { OnOk result (EachIndex (Self.links_in links.now) (λ i. (slice_index_or (Self.links_in links.now) i no_link).tally < 2 ^ 16)) };
 
     // Puts a link behind the i links at the front of lent room; nothing is written past the last place, and the rest stays.
     fn put(room: &mut [Self], i: usize, l: Link)
         ensures { (was : List Self) (ls : List Link) →
-            length ls ≡ i → room.old ≡ front links_in written was ls → room.new ≡ front links_in written was (ls ++ l ∷ []) };
+            length ls ≡ i → room.old ≡ front Self.links_in written was ls → room.new ≡ front Self.links_in written was (ls ++ l ∷ []) };
 
     // Where there are no links, nothing is written.
     ghost written_none: { written [] ≡ [] };
 }
 
-impl LinkForm for u8 {
+impl LinkRun for u8 {
     ghost links_in = { links_of };
 
     ghost are_whole = { whole };
-
-    ghost written = { link_bytes };
 
     fn count(links: &[u8]) -> usize {
         links.len() / 4
@@ -54,6 +63,14 @@ impl LinkForm for u8 {
 
     fn link(links: &[u8], i: usize) -> Link {
         judge::link_at(links, i)
+    }
+}
+
+impl LinkForm for u8 {
+    ghost written = { link_bytes };
+
+    fn fill(n: u64, k: u64, links: &[u8], table: &mut [u32; 16384]) -> Result<(), Refusal> {
+        table::fill(n, k, links, table)
     }
 
     fn put(room: &mut [u8], i: usize, l: Link) {
@@ -67,12 +84,10 @@ impl LinkForm for u8 {
     ghost written_none = { no_bytes };
 }
 
-impl LinkForm for Link {
+impl LinkRun for Link {
     ghost links_in = { λ links. links };
 
     ghost are_whole = { λ links. true };
-
-    ghost written = { λ links. links };
 
     fn count(links: &[Link]) -> usize {
         links.len()
@@ -84,6 +99,14 @@ impl LinkForm for Link {
 
     fn link(links: &[Link], i: usize) -> Link {
         record::link_at(links, i)
+    }
+}
+
+impl LinkForm for Link {
+    ghost written = { λ links. links };
+
+    fn fill(n: u64, k: u64, links: &[Link], table: &mut [u32; 16384]) -> Result<(), Refusal> {
+        records::fill_records(n, k, links, table)
     }
 
     fn put(room: &mut [Link], i: usize, l: Link) {

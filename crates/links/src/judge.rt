@@ -2,7 +2,7 @@
 ghost use Rattle.std.specs.Prelude.{◌≡◌, slice_index_or};
 ghost use Rattle.meaning.specs.Judge.{first};
 ghost use Rattle.links.specs.Links.{links_of, count_rows, link_rows};
-ghost use Rattle.links.specs.Records.{no_link};
+ghost use Rattle.links.specs.Forms.{no_link};
 
 use meaning::{Link, Refusal, Row};
 

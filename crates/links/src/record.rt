@@ -1,6 +1,7 @@
 // One link record of a run of them: read, stored, and held against labels.
 ghost use Rattle.std.specs.Prelude.{◌≡◌, slice_index_or, slice_set};
-ghost use Rattle.links.specs.Records.{no_link, same_label};
+ghost use Rattle.links.specs.Records.{same_label};
+ghost use Rattle.links.specs.Forms.{no_link};
 
 use meaning::Link;
 

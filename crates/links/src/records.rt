@@ -3,7 +3,7 @@ ghost use Rattle.std.specs.Prelude.{◌≡◌, ◌<◌, ◌^◌, true, OnOk, sli
 ghost use Rattle.meaning.specs.Judge.{first};
 ghost use Rattle.links.specs.Links.{table_rows};
 ghost use Rattle.links.specs.Table.{filled};
-ghost use Rattle.links.specs.Records.{no_link, KeepsLinks};
+ghost use Rattle.links.specs.Forms.{no_link, KeepsLinks};
 
 use crate::form::LinkForm;
 use crate::record::same_label;
@@ -11,7 +11,7 @@ use crate::table::fill;
 use meaning::{Link, Refusal};
 
 // Judges n, k and links lent as records, and adds the links to the table, as far as they are accepted.
-// It is `fill` over records, and stays as the form that document 01 names; the calls over records go to `fill` themselves.
+// It is `fill` over records, a form that document 01 names: whatever is lent as records fills its table here.
 pub fn fill_records(n: u64, k: u64, links: &[Link], table: &mut [u32; 16384]) -> Result<(), Refusal>
     ensures taken { (result ≡ first (table_rows n k true links.now)) × (table.new ≡ filled result table.old links.now) }
     ensures tallies { OnOk result (EachIndex links.now (λ i. (slice_index_or links.now i no_link).tally < 2 ^ 16)) }

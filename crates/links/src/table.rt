@@ -3,10 +3,10 @@
 ghost use Rattle.std.specs.Prelude.{◌≡◌, ◌/◌, ◌%◌, ◌^◌, ◌<◌, ◌≤◌, length, OnOk, EachIndex, slice_index_or};
 ghost use Rattle.meaning.specs.Judge.{first};
 ghost use Rattle.links.specs.Links.{table_rows};
-ghost use Rattle.links.specs.Records.{no_link};
+ghost use Rattle.links.specs.Forms.{no_link};
 ghost use Rattle.links.specs.Table.{spot, held, raised, lowered, added, tallied, filled};
 
-use crate::form::LinkForm;
+use crate::form::LinkRun;
 use crate::judge::{judge_counts, judge_link};
 use meaning::{Link, Refusal};
 
@@ -65,7 +65,7 @@ pub fn add_within(table: &mut [u32; 16384], l: Link)
 
 // Judges n, k and the links of a run in either form, and adds the links to the table, as far as they are accepted. Who lends the links learns that their
 // tallies have 16 bits, as their type says: so the tallies of the table do not wrap.
-pub fn fill<L: LinkForm>(
+pub fn fill<L: LinkRun>(
     n: u64,
     k: u64,
     links: &[L],

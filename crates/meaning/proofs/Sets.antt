@@ -56,6 +56,11 @@ unfolding some
 some_same zero X Y e = refl
 some_same (suc n) X Y e = ap₂ ◌||◌ (some_same n X Y (λ b h. e b (omega arith))) (e n (le_refl (suc n)))
 
+pub every_same : (n : ℕ) (X Y : Bones) → Same n X Y → every n X ≡ every n Y
+unfolding every
+every_same zero X Y e = refl
+every_same (suc n) X Y e = ap₂ ◌&&◌ (every_same n X Y (λ b h. e b (omega arith))) (e n (le_refl (suc n)))
+
 -- the least bone of a set that has one: it is in the set, and no other is less
 pub least_in : (n : ℕ) (X : Bones) (b : ℕ) → b < n → T (X b) → T (X (least n X)) × (least n X ≤ b)
 unfolding least
@@ -163,3 +168,11 @@ every_set_fails n P t =
 pub every_set_intro : (n : ℕ) (P : Bones → Bool) → ((X : Bones) → T (P X)) → T (every_set n P)
 every_set_intro n P f =
     ⊎_elim (λ t. t) (λ t. let r = every_set_fails n P t in absurd (T_not (P r.0) r.2 (f r.0))) (decide (every_set n P))
+
+pub some_set_same : (n : ℕ) (P Q : Bones → Bool) → ((X : Bones) → P X ≡ Q X) → some_set n P ≡ some_set n Q
+unfolding some_set
+some_set_same zero P Q e = e (λ b. false)
+some_set_same (suc n) P Q e = ap₂ ◌||◌ (some_set_same n P Q e) (some_set_same n _ _ (λ X. e (λ b. eqb b n || X b)))
+
+pub every_set_same : (n : ℕ) (P Q : Bones → Bool) → ((X : Bones) → P X ≡ Q X) → every_set n P ≡ every_set n Q
+every_set_same n P Q e = every_some n P ∙ ap not (some_set_same n _ _ (λ X. ap not (e X))) ∙ sym (every_some n Q)

@@ -3,7 +3,8 @@
 use Prim.Native.Nat.{ℕ, ◌+◌}
 use mathlib.Core.Path.{◌≡◌, refl, ap, ap₂}
 use mathlib.Core.Bool.{Bool, true, false, cond, ◌&&◌, ◌||◌}
-use mathlib.Core.List.{List, [], ◌∷◌}
+use mathlib.Core.List.{List, [], ◌∷◌, ◌++◌}
+use native.Mathlib.Omega.{arith}
 use lib.Dec.{eqb}
 use Rattle.meaning.specs.declared.Link.{Link}
 use Rattle.meaning.specs.Tally.{Symmetric, joins, pair_tally}
@@ -22,3 +23,8 @@ pub pair_tally_symmetric : (links : List Link) → Symmetric (pair_tally links)
 unfolding pair_tally
 pair_tally_symmetric [] i j = refl
 pair_tally_symmetric (l ∷ ls) i j = ap₂ ◌+◌ (ap (λ (b : Bool). cond b l.tally 0) (joins_turned l i j)) (pair_tally_symmetric ls i j)
+
+pub pair_tally_append : (ls ms : List Link) (i j : ℕ) → pair_tally (ls ++ ms) i j ≡ pair_tally ls i j + pair_tally ms i j
+unfolding pair_tally
+pair_tally_append [] ms i j = omega arith
+pair_tally_append (l ∷ ls) ms i j = omega (arith, pair_tally_append ls ms i j)

@@ -92,15 +92,15 @@ passes (so b) = b
 passes (a ⊃ c) = a ⇒ passes c
 
 -- claims about n Bools, the trial of them all, and what the trial shows of any Bools
-abbrev Claims : ℕ → Type 0
+abbrev pub Claims : ℕ → Type 0
 Claims zero = Claim
 Claims (suc n) = Bool → Claims n
 
-abbrev tries : (n : ℕ) → Claims n → Bool
+abbrev pub tries : (n : ℕ) → Claims n → Bool
 tries zero f = passes f
 tries (suc n) f = tries n (f true) && tries n (f false)
 
-abbrev Taut : (n : ℕ) → Claims n → Type 0
+abbrev pub Taut : (n : ℕ) → Claims n → Type 0
 Taut zero f = Holds f
 Taut (suc n) f = (a : Bool) → Taut n (f a)
 

@@ -34,6 +34,7 @@ use Rattle.texts.proofs.Walks.{well_room}
 use Rattle.texts.proofs.Rows.{row_applies, row_passes, answered_accepted, answered_refused}
 use Rattle.texts.proofs.Judging.{rest, rest_at, rows_pass, head_read, head_kept}
 use Rattle.texts.proofs.ReadsText.{bones_front, threshold_front, links_front, links_skip, entries_front, entries_skip, entry_length}
+use Rattle.texts.proofs.Walks.{size_of, well_room}
 
 -- a reading of these numbers
 abbrev pub numbers : ℕ → ℕ → ℕ → ℕ → Reading
@@ -210,11 +211,15 @@ module _ (text : List ℕ) (s t : Progress) (f : Frame) (r : Ready text s f) (p 
           (λ u. no_cut b (neqb→ne (number_of f.kind) 3 u))
           (decide (eqb (number_of f.kind) 3))
 
+-- a head stands within the text
+pub head_room : (text : List ℕ) (s : Progress) (f : Frame) → Ready text s f → number_of f.kind ≡ 1 → s.at + 10 < length text
+head_room text s f r e = omega (arith, ready_room text s f r, r.line.frame.size, size_of (drop s.at text) 1 (sym r.line.frame.kind ∙ e))
+
 -- reading from the start, to a refusal, and to the end
-abbrev beginning : Progress
+abbrev pub beginning : Progress
 beginning = record { at = 0; line = 0; stage = Opening; n = 0; k = 0; links = 0; cuts = 0 }
 
-whole_text : (ls : List Line) → answered (first (line_rows Opening 0 ls)) (found_in ls) ≡ read_from beginning ls
+pub whole_text : (ls : List Line) → answered (first (line_rows Opening 0 ls)) (found_in ls) ≡ read_from beginning ls
 unfolding read_from head_from found_in
 whole_text ls =
     let a : length (links_in ls) ≡ 0 + length (links_in ls) = omega arith in

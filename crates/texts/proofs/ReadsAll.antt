@@ -1,6 +1,7 @@
 -- Laws of reading a text whole: what was judged can be stored, and storing it leaves what the reader promises.
 -- Assumes nothing.
-use Rattle.std.proofs.Common.{◌≡◌, ℕ, T, List, length, Ok, Err, sym}
+use Rattle.std.proofs.Common.{◌≡◌, ℕ, ◌*◌, ◌/◌, T, List, length, Ok, Err, sym, ap, arith}
+use Rattle.cutting.specs.Record.{entry_size}
 use Rattle.meaning.specs.declared.Link.{Link}
 use Rattle.meaning.specs.declared.Refusal.{Refusal}
 use Rattle.meaning.specs.Judge.{Judged, Accepted, answered, first}
@@ -12,7 +13,7 @@ use Rattle.texts.specs.Reader.{links_in, entries_in, found_in, reader_rows, Read
 use Rattle.texts.specs.Judging.{all_well}
 use Rattle.texts.specs.Storing.{Storable}
 use Rattle.texts.proofs.Rows.{told_accepted, told_refused}
-use Rattle.texts.proofs.ReadsRows.{accepted_well, lines_accepted, has_room}
+use Rattle.texts.proofs.ReadsRows.{accepted_well, entries_whole, lines_accepted, has_room}
 
 module _ (text : List ℕ) (links : List Link) (space : List ℕ) where
   abbrev judged : Judged
@@ -37,6 +38,18 @@ module _ (text : List ℕ) (links : List Link) (space : List ℕ) where
 
     pub entries_storable : Storable text (entries_in (lines_of text)) space
     entries_storable = record { well = well; fits = (has_room text (length links) (length space) accepted).entries_fit }
+
+    -- as many links and bytes of entries as were found
+    pub links_counted : r.links ≡ length (links_in (lines_of text))
+    unfolding found_in
+    links_counted = ap (λ (x : Reading). x.links) (told_accepted judged (found_in (lines_of text)) r e).1
+
+    pub entries_counted : r.cuts * entry_size ≡ length (entries_in (lines_of text))
+    unfolding found_in
+    entries_counted =
+        let whole = entries_whole (lines_of text) well in
+        let cuts : r.cuts ≡ length (entries_in (lines_of text)) / entry_size = ap (λ (x : Reading). x.cuts) (told_accepted judged (found_in (lines_of text)) r e).1 in
+        omega (arith, whole, cuts)
 
     pub reads_so : Reads text links (over links 0 (links_in (lines_of text))) space (over space 0 (entries_in (lines_of text))) (Ok r)
     reads_so = record { answer = e; links_after = sym (settled_new links _ accepted); record_left = sym (settled_new space _ accepted) }

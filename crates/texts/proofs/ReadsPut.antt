@@ -60,6 +60,14 @@ pub record Storing {A : Type 0} (held : List Line → List A) (text : List ℕ) 
 pub storing_none : {A : Type 0} (held : List Line → List A) (text : List ℕ) (old : List A) → Storable text (held (lines_of text)) old → Storing held text old old 0 0
 storing_none held text old s = record { within = omega arith; well = s.well; putting = putting_none (held (lines_of text)) old s.fits }
 
+-- where so many places are taken as the text holds, all of it is stored
+pub storing_full : {A : Type 0} (held : List Line → List A) (text : List ℕ) (old room : List A) (from done : ℕ) → Storing held text old room from done
+    → length (held (lines_of text)) ≤ done → room ≡ over old 0 (held (lines_of text))
+storing_full held text old room from done s full =
+    let left = held (lines_of (drop from text)) in
+    putting_all (held (lines_of text)) left old room done s.putting
+    (omega (arith, full, s.putting.so_many, ap length s.putting.with_held, length-append s.putting.front left))
+
 module _ {A : Type 0} {kind : ℕ} {held : List Line → List A} {part : List ℕ → List A} (holds : Holds kind held part) (text : List ℕ) (old : List A) where
   module _ (room : List A) (from done : ℕ) (g : Storing held text old room from done) where
     -- where no frame of the kind is left, all is stored
@@ -70,7 +78,7 @@ module _ {A : Type 0} {kind : ℕ} {held : List Line → List A} {part : List �
 
     -- where one is, what it holds is next
     module _ (f : Found) (found : FoundAt text from kind f) where
-      taken : held (lines_of (drop from text)) ≡ part (drop f.at text) ++ held (lines_of (drop f.next text))
+      pub taken : held (lines_of (drop from text)) ≡ part (drop f.at text) ++ held (lines_of (drop f.next text))
       taken =
           sym (holds.skipped (lines_of (drop from text)))
           ∙ ap held (sym found.lines)

@@ -26,7 +26,8 @@ use Rattle.texts.specs.Lines.{Line, lines_of, frame, kind, pair, line_rows}
 use Rattle.texts.specs.Reader.{entry_in, links_in, entries_in, found_in, reader_rows}
 use Rattle.texts.specs.Judging.{all_well}
 use Rattle.frames.proofs.Frames.{chosen, well_parts}
-use Rattle.texts.proofs.Rows.{row_applies, row_passes, row_accepted, once, told_accepted}
+use Rattle.texts.proofs.Rows.{row_applies, row_passes, row_accepted, once, told_accepted, answered_accepted, answered_refused}
+use Rattle.meaning.specs.declared.Row.{Row}
 
 -- the lines of an accepted text are well formed
 pub accepted_well : (ls : List Line) (stage : Stage) (line : ℕ) → first (line_rows stage line ls) ≡ Accepted → T (all_well ls)
@@ -123,6 +124,22 @@ module _ (text : List ℕ) (lent room : ℕ) where
   pub has_room : first (reader_rows text lent room) ≡ Accepted → Roomy (length (links_in (lines_of text))) (length (entries_in (lines_of text))) lent room
   has_room e = counts_roomy _ _ lent room (parts_accepted e).1
 
+-- what was found counts the links, and the bytes of the entries, which are whole
+module _ (text : List ℕ) (r : Reading) (e : Ok r ≡ answered (first (line_rows Opening 0 (lines_of text))) (found_in (lines_of text))) where
+  told : (first (line_rows Opening 0 (lines_of text)) ≡ Accepted) × (r ≡ found_in (lines_of text))
+  told = told_accepted _ (found_in (lines_of text)) r e
+
+  pub links_are_read : length (links_in (lines_of text)) ≡ r.links
+  unfolding found_in
+  links_are_read = ap (λ (x : Reading). x.links) (sym told.1)
+
+  pub entries_read : length (entries_in (lines_of text)) ≡ r.cuts * entry_size
+  unfolding found_in
+  entries_read =
+      let whole = entries_whole (lines_of text) (accepted_well (lines_of text) Opening 0 told.0) in
+      let cuts : r.cuts ≡ length (entries_in (lines_of text)) / entry_size = ap (λ (x : Reading). x.cuts) told.1 in
+      omega (arith, whole, cuts)
+
 -- what the lines of a text gave, where none was refused: the rows that are left, on the numbers that were found
 pub record Found (text : List ℕ) (lent room : ℕ) (r : Reading) : Type 0 where
   pub is : r ≡ found_in (lines_of text)
@@ -142,3 +159,56 @@ found text lent room r h e =
       is = t.1;
       rows = by_counts text lent room h t.0 ∙ ap₂ (λ (a b : ℕ). first (counts a b lent room)) links entries;
     }
+
+-- the reader's answer by the counts: the first of rows 3, 9, 14 and 8 that refuses, or what was found
+module _ (text : List ℕ) (lent room : ℕ) (small : length text ≤ 65536) (r : Reading)
+    (e : Ok r ≡ answered (first (line_rows Opening 0 (lines_of text))) (found_in (lines_of text))) where
+  abbrev rows_left : List Judged
+  rows_left = counts r.links (r.cuts * entry_size) lent room
+
+  here : Found text lent room r
+  here = found text lent room r small e
+
+  by_row : (row : Row) → first rows_left ≡ Refused row 0 → Err (record { row = row; place = 0 }) ≡ answered (first (reader_rows text lent room)) (found_in (lines_of text))
+  by_row row q = sym (answered_refused (found_in (lines_of text)) (here.rows ∙ q))
+
+  pub by_3 : 4096 < r.links → Err (record { row = Links; place = 0 }) ≡ answered (first (reader_rows text lent room)) (found_in (lines_of text))
+  unfolding counts
+  by_3 h = by_row Links (row_applies (ltb 4096 r.links) Links 0 (drop 1 rows_left) (lt→ltb 4096 r.links h))
+
+  past_3 : r.links ≤ 4096 → first rows_left ≡ first (drop 1 rows_left)
+  unfolding counts
+  past_3 h = row_passes (ltb 4096 r.links) Links 0 (drop 1 rows_left) (fails (le-ltb 4096 r.links h))
+
+  pub by_9 : r.links ≤ 4096 → 127 < r.cuts → Err (record { row = Record; place = 0 }) ≡ answered (first (reader_rows text lent room)) (found_in (lines_of text))
+  unfolding counts
+  by_9 a h =
+      by_row Record
+      (past_3 a
+      ∙ row_applies (ltb (entry_size * 127) (r.cuts * entry_size)) Record 0 (drop 2 rows_left) (lt→ltb (entry_size * 127) (r.cuts * entry_size) (omega arith)))
+
+  past_9 : r.links ≤ 4096 → r.cuts ≤ 127 → first rows_left ≡ first (drop 2 rows_left)
+  unfolding counts
+  past_9 a b =
+      past_3 a
+      ∙ row_passes (ltb (entry_size * 127) (r.cuts * entry_size)) Record 0 (drop 2 rows_left) (fails (le-ltb (entry_size * 127) (r.cuts * entry_size) (omega arith)))
+
+  pub by_14 : r.links ≤ 4096 → r.cuts ≤ 127 → lent < r.links → Err (record { row = LinkSpace; place = 0 }) ≡ answered (first (reader_rows text lent room)) (found_in (lines_of text))
+  unfolding counts
+  by_14 a b h = by_row LinkSpace (past_9 a b ∙ row_applies (ltb lent r.links) LinkSpace 0 (drop 3 rows_left) (lt→ltb lent r.links h))
+
+  past_14 : r.links ≤ 4096 → r.cuts ≤ 127 → r.links ≤ lent → first rows_left ≡ first (drop 3 rows_left)
+  unfolding counts
+  past_14 a b c = past_9 a b ∙ row_passes (ltb lent r.links) LinkSpace 0 (drop 3 rows_left) (fails (le-ltb lent r.links c))
+
+  pub by_8 : r.links ≤ 4096 → r.cuts ≤ 127 → r.links ≤ lent → room < r.cuts * entry_size
+      → Err (record { row = RecordSpace; place = 0 }) ≡ answered (first (reader_rows text lent room)) (found_in (lines_of text))
+  unfolding counts
+  by_8 a b c h = by_row RecordSpace (past_14 a b c ∙ row_applies (ltb room (r.cuts * entry_size)) RecordSpace 0 [] (lt→ltb room (r.cuts * entry_size) h))
+
+  pub by_none : r.links ≤ 4096 → r.cuts ≤ 127 → r.links ≤ lent → r.cuts * entry_size ≤ room → Ok r ≡ answered (first (reader_rows text lent room)) (found_in (lines_of text))
+  unfolding counts first
+  by_none a b c d =
+      ap Ok here.is
+      ∙ sym (answered_accepted (found_in (lines_of text))
+      (here.rows ∙ past_14 a b c ∙ row_passes (ltb room (r.cuts * entry_size)) RecordSpace 0 [] (fails (le-ltb room (r.cuts * entry_size) d))))

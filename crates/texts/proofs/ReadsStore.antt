@@ -56,9 +56,13 @@ skip_here cs w k e =
 pub skip_on : (cs : List ℕ) → Well cs → (k : ℕ) → (byte_at cs 0 ≡ k → ⊥) → skip_to k (lines_of cs) ≡ skip_to k (rest cs)
 skip_on cs w k f = skip_told cs w k ∙ ap (λ (b : Bool). cond b (front cs ∷ rest cs) (skip_to k (rest cs))) (ne_eqb (byte_at cs 0) k f)
 
-skip_end : (text : List ℕ) (at k : ℕ) → length text ≤ at → skip_to k (lines_of (drop at text)) ≡ []
+pub skip_end : (text : List ℕ) (at k : ℕ) → length text ≤ at → lines_of (drop at text) ≡ skip_to k (lines_of (drop at text))
 unfolding lines_of skip_to
 skip_end text at k h = rw (drop_of_length-le text {i = at} h)
+
+skip_none : (text : List ℕ) (at k : ℕ) → length text ≤ at → skip_to k (lines_of (drop at text)) ≡ []
+unfolding lines_of skip_to
+skip_none text at k h = rw (drop_of_length-le text {i = at} h)
 
 -- how far a walk over the frames has come: what is to be found is still to be found
 pub record Onward (text : List ℕ) (from k at : ℕ) : Type 0 where
@@ -96,7 +100,7 @@ module _ (text : List ℕ) (from k at : ℕ) (o : Onward text from k at) where
       }
 
   pub onward_end : length text ≤ at → skip_to k (lines_of (drop from text)) ≡ []
-  onward_end h = sym o.lines ∙ skip_end text at k h
+  onward_end h = sym o.lines ∙ skip_none text at k h
 
 -- the first bytes of a payload: how many, and which
 pub payload_length : (cs : List ℕ) (i : ℕ) → length (payload_at cs i) ≡ i

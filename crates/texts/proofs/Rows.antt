@@ -5,6 +5,7 @@ use Rattle.meaning.specs.declared.Row.{Row}
 use Rattle.meaning.specs.declared.Refusal.{Refusal}
 use Rattle.meaning.specs.Judge.{Judged, Accepted, Refused, answered, refuse, first}
 use Rattle.meaning.proofs.Tests.{fails}
+use Rattle.std.specs.Result.{result_and}
 
 -- a row that applies is the answer; one that does not is passed over
 pub row_applies : (b : Bool) (row : Row) (place : ℕ) (js : List Judged) → T b → first (refuse b row place ∷ js) ≡ Refused row place
@@ -36,6 +37,13 @@ unfolding first
 first_without [] j ks f = rw (f refl) refl
 first_without (Ok done ∷ js) j ks f = first_without js j ks f
 first_without (Err refusal ∷ js) j ks f = refl
+
+-- the first refusal of two lists of rows
+pub first_both : (js ks : List Judged) → first (js ++ ks) ≡ result_and (first js) (first ks)
+unfolding first
+first_both [] ks = refl
+first_both (Ok done ∷ js) ks = first_both js ks
+first_both (Err refusal ∷ js) ks = refl
 
 -- what an answer tells of the rows, and the rows of the answer
 module _ {A : Type 0} where

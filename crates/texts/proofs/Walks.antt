@@ -8,7 +8,7 @@ use Rattle.std.proofs.Common.{Option, Some, None, SomeIff, unwrap_or}
 use mathlib.Core.List.{List}
 use native.Mathlib.Omega.{arith}
 use lib.Dec.{T, eqb, ltb, lt→ltb, T_not, leb}
-use borrow.Author.Tests.{lt-leb, le-leb, lt-ltb}
+use borrow.Author.Tests.{lt-leb, le-leb}
 use lib.ListN.{length, get_or, take, drop, length-drop}
 use lib.Seq.{take_all}
 use Rattle.meaning.proofs.Tests.{both, is_true, eq→eqb}
@@ -18,7 +18,7 @@ use Rattle.frames.specs.declared.kind.Kind.{Kind}
 use Rattle.frames.specs.declared.kind.Kind.TheVariants.{Head, Link, Cut, Label, Note, Close, Refusal}
 use Rattle.frames.specs.Kinds.{number_of}
 use Rattle.texts.specs.Walk.{byte_at, digits_at, size_at, Well, LineAt, FrameAt}
-use Rattle.frames.proofs.Frames.{chosen, sum_snoc}
+use Rattle.frames.proofs.Frames.{chosen, sum_snoc, pair_digits}
 use Rattle.frames.proofs.Characters.{kind_bounds, feed_told}
 use Rattle.texts.proofs.Lines.{bytes_of_snoc, hex_snoc, hex_at, pair_digits_at, pair_byte_at, byte_at_bound, values_at}
 
@@ -55,11 +55,6 @@ pub digit_told : (c : ℕ) (digit : Option ℕ) (r : ℕ) → SomeIff digit (val
 digit_told c (Some v) r e q = inl (omega (arith, e.0, e.1), q ∙ e.1)
 digit_told c None r e q = inr (omega arith, omega (arith, e))
 
--- two digits are a pair
-pair_digits : (c d : ℕ) → value_of c < 16 → value_of d < 16 → value_of c * 16 + value_of d ≡ pair_of c d
-unfolding pair_of
-pair_digits c d h k = rw (lt-ltb (value_of c) 16 h, lt-ltb (value_of d) 16 k) refl
-
 pub adding_more : (cs : List ℕ) (size i sum : ℕ) (bad : Bool) (h l r : ℕ) → 2 * size ≤ length cs → i < size
     → Adding cs size i sum bad
     → ((h < 16) × (h ≡ value_of (get_or cs (2 * i) 0))) ⊎ ((16 ≤ h) × (16 ≤ value_of (get_or cs (2 * i) 0)))
@@ -72,7 +67,7 @@ adding_more cs size i sum false h l r room less a (inl p) (inl q) total =
     rw (lt-leb 16 h p.0, lt-leb 16 l q.0)
     (record {
       good = λ z.
-          added_more cs i sum _ r (omega arith) (a.good refl) (pair_digits (get_or cs (2 * i) 0) (get_or cs (2 * i + 1) 0) (omega arith) (omega arith))
+          added_more cs i sum _ r (omega arith) (a.good refl) (sym (pair_digits (get_or cs (2 * i) 0) (get_or cs (2 * i + 1) 0) (omega arith) (omega arith)))
           (omega arith) (omega arith);
       broken = λ z. absurd (true≢false (sym z));
     })
@@ -122,7 +117,7 @@ byte_told cs i (Some b) r e q t = q ∙ e.1 ∙ pair_byte_at cs i t
 byte_told cs i None r e q t = absurd (e (omega (arith, pair_byte_at cs i t, byte_at_bound cs i t)))
 
 -- a line feed stands at the end of a well formed line
-well_feed : (cs : List ℕ) (size : ℕ) → Well cs → size ≡ size_at cs → T (feed_at cs size)
+pub well_feed : (cs : List ℕ) (size : ℕ) → Well cs → size ≡ size_at cs → T (feed_at cs size)
 unfolding feed_at
 well_feed cs size w e =
     subst (λ (n : ℕ). T (feed_at cs n)) (sym e)
@@ -168,8 +163,10 @@ module _ (cs : List ℕ) where
       let q : first-pair ≡ byte_at cs 0 = pair_byte_at cs 0 d in
       ap (λ (b : Bool). cond b first-pair 0) (is_true (is_kind first-pair) (subst (λ (x : ℕ). T (is_kind x)) (sym q) w.kind)) ∙ q
 
-  pub kind_well : Well cs → 1 ≤ first-kind
-  kind_well w = omega (arith, kind_front w, kind_bounds (byte_at cs 0) w.kind)
+  pub kind_well : Well cs → (1 ≤ first-kind) × (first-kind < 8) × (get_or payloads first-kind 0 + 2 ≡ size_at cs)
+  kind_well w =
+      let b = kind_bounds (byte_at cs 0) w.kind in
+      (omega (arith, kind_front w, b.0), omega (arith, kind_front w, b.1), sym (size_of cs first-kind (sym (kind_front w))))
 
   -- the line, by the line feed behind its frame
   module _ (kind : Kind) (e : number_of kind ≡ first-kind) (size : ℕ) (s : size ≡ get_or payloads (number_of kind) 0 + 2) where

@@ -97,9 +97,11 @@ abbrev pub entry : List ℕ → ℕ → List ℕ
 entry bytes i = take entry_size (drop (entry_size * i) bytes)
 
 module _ (bytes : List ℕ) (i : ℕ) (h : i < length bytes / entry_size) where
+  pub length_part : length (entry bytes i) ≡ entry_size
+  length_part = length-take-le entry_size (drop (entry_size * i) bytes) (omega (arith, length-drop (entry_size * i) bytes))
+
   pub length_cut : length (line 3 (entry bytes i)) ≡ line_size 3
-  length_cut =
-      omega (arith, length-line 3 (entry bytes i), length-take-le entry_size (drop (entry_size * i) bytes) (omega (arith, length-drop (entry_size * i) bytes)))
+  length_cut = omega (arith, length-line 3 (entry bytes i), length_part)
 
   pub next_cut : (room r : List ℕ) (at place : ℕ) → at + line_size 3 * (length bytes / entry_size) ≤ length room
       → r ≡ over room at (cut_lines i bytes)

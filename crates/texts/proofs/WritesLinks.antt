@@ -1,6 +1,6 @@
 -- Links behind the head, one after the other: none yet, one link more, and the length that stays; and the input text that they make.
 -- Assumes nothing.
-use Prim.Native.Nat.{ℕ, ◌+◌, ◌*◌, ◌/◌, ◌≤◌, ◌<◌}
+use Prim.Native.Nat.{ℕ, ◌+◌, ◌*◌, ◌/◌, ◌≤◌, ◌<◌, zero, suc}
 use mathlib.Core.Path.{◌≡◌, refl, sym, ◌∙◌, ap}
 use mathlib.Core.List.{List, ◌++◌, append_assoc}
 use native.Mathlib.Numerals.{add-one}
@@ -8,7 +8,7 @@ use native.Mathlib.Omega.{arith}
 use lib.ListN.{length, get_or, take, length-append}
 use lib.Seq.{length-take-le, take-suc, take-length}
 use Rattle.meaning.specs.declared.Link.{Link}
-use Rattle.links.specs.Records.{no_link}
+use Rattle.links.specs.Forms.{no_link}
 use Rattle.cutting.specs.Record.{entry_size}
 use Rattle.texts.specs.Kinds.{head_line, link_line, link_lines, cut_lines, close_line}
 use Rattle.texts.specs.Inputs.{input_text}
@@ -33,15 +33,25 @@ module _ (room : List ℕ) (links : List Link) where
   pub linked_all : linked room links (length links) ≡ over room (line_size 1) (link_lines links)
   linked_all = ap (λ (xs : List Link). over room (line_size 1) (link_lines xs)) (take-length links)
 
-  module _ (fits : line_size 1 + line_size 2 * length links ≤ length room) where
-    pub linked_more : (i : ℕ) → i < length links
+  module _ (count : ℕ) (few : count ≤ length links) (fits : 0 < count → line_size 1 + line_size 2 * count ≤ length room) where
+    pub linked_more : (i : ℕ) → i < count
         → over (linked room links i) (line_size 1 + line_size 2 * i) (link_line (get_or links i no_link)) ≡ linked room links (i + 1)
     linked_more i h =
+        let f = fits (omega arith) in
         let long = first_long i (omega arith) in
         onto room (line_size 1) (link_lines (take i links)) (link_line (get_or links i no_link)) _ (line_size 1 + line_size 2 * i) refl (omega arith) (omega arith)
         ∙ ap (over room (line_size 1))
         (sym (links_more (take i links) (get_or links i no_link))
         ∙ ap link_lines (sym (take-suc links i no_link (omega arith)) ∙ ap (λ (m : ℕ). take m links) (sym (add-one i))))
+
+    pub linked_long : (i : ℕ) → i ≤ count → length (linked room links i) ≡ length room
+    linked_long zero h = ap length (sym linked_none)
+    linked_long (suc i) h =
+        let f = fits (omega arith) in
+        length_over room (line_size 1) (link_lines (take (suc i) links)) (omega (arith, first_long (suc i) (omega arith)))
+
+    pub linked_room : (i : ℕ) → i < count → line_size 1 + line_size 2 * i + line_size 2 ≤ length (linked room links i)
+    linked_room i h = let f = fits (omega arith) in omega (arith, linked_long i (omega arith))
 
 -- the length of an input text
 pub length_input : (n k : ℕ) (links : List Link) (bytes : List ℕ) → length (input_text n k links bytes) ≡ input_size (length links) (length bytes / entry_size)

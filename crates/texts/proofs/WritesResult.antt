@@ -1,6 +1,6 @@
 -- The result writer above checking: the names that it leaves, and the rows that it tried.
 -- Assumes nothing.
-use Rattle.std.proofs.Common.{◌≡◌, ℕ, true, List, ◌++◌, length, get_or, Err, sym, ap, ◌∙◌, arith, le-ltb}
+use Rattle.std.proofs.Common.{◌≡◌, ℕ, true, List, ◌++◌, length, get_or, Err, sym, ap, ◌∙◌, arith, le-ltb, [], ◌∷◌, ap₂}
 use Rattle.meaning.specs.declared.Link.{Link}
 use Rattle.meaning.specs.declared.Refusal.{Refusal}
 use Rattle.meaning.specs.Judge.{Judged, Accepted, refuse, first}
@@ -20,7 +20,18 @@ use Rattle.cutting.proofs.Continuing.{record_sound}
 use Rattle.texts.specs.Writing.{text_row}
 use Rattle.texts.specs.Writers.{result_text, result_rows}
 use Rattle.texts.specs.ResultSteps.{Named}
-use Rattle.texts.proofs.Rows.{first_without}
+use Rattle.texts.proofs.Rows.{first_without, first_both}
+use Rattle.std.specs.Result.{result_and}
+
+-- the result writer's rows: 1 to 6, 9 to 13, and 20
+pub result_rows_lem : (n k : ℕ) (links : List Link) (bytes : List ℕ) (room : ℕ)
+    → first (result_rows n k links bytes room)
+    ≡ result_and (result_and (first (table_rows n k true links)) (first (record_rows n (pair_tally links) k bytes))) (text_row (result_text n k bytes) room)
+unfolding result_rows
+result_rows_lem n k links bytes room =
+    let last : Judged = text_row (result_text n k bytes) room in
+    first_both (table_rows n k true links ++ record_rows n (pair_tally links) k bytes) (last ∷ [])
+    ∙ ap₂ (λ (i j : Judged). result_and i j) (first_both (table_rows n k true links) (record_rows n (pair_tally links) k bytes)) (first_last last)
 
 module _ (n k : ℕ) (links : List Link) (bytes labels : List ℕ) (long : length labels ≡ 128) where
   abbrev judged : Judged

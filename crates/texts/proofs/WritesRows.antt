@@ -1,6 +1,6 @@
 -- The input writer's rows 9 and 20, and the frames around the links.
 -- Assumes nothing.
-use Prim.Native.Nat.{ℕ, ◌+◌, ◌*◌, ◌-◌, ◌/◌, ◌%◌, ◌≤◌}
+use Prim.Native.Nat.{ℕ, ◌+◌, ◌*◌, ◌-◌, ◌/◌, ◌%◌, ◌≤◌, ◌<◌}
 use mathlib.Core.Path.{◌≡◌, ◌∙◌, ap, ap₂}
 use mathlib.Core.Bool.{not, ◌||◌}
 use mathlib.Core.List.{List, [], ◌++◌}
@@ -10,7 +10,7 @@ use lib.ListN.{length}
 use Rattle.std.proofs.Common.{Ok, Err, sym}
 use Rattle.meaning.specs.declared.Refusal.{Refusal}
 use Rattle.meaning.specs.declared.Row.TheVariants.{Record, TextSpace}
-use Rattle.meaning.specs.Judge.{Judged, Accepted, first}
+use Rattle.meaning.specs.Judge.{Judged, Accepted, first, Refused, refuse}
 use Rattle.meaning.proofs.Tests.{taut, so, ◌⊃◌}
 use Rattle.cutting.specs.Record.{entry_size}
 use Rattle.cutting.specs.RecordRows.{record_row}
@@ -23,6 +23,27 @@ use Rattle.texts.specs.Kinds.{head_line, cut_lines, close_line}
 use Rattle.texts.proofs.WritesLines.{length_head, length_cuts, length_close}
 use Rattle.texts.specs.Steps.{input_size, later_rows, around, Surrounds}
 use Rattle.texts.proofs.Rows.{row_accepted, answered_accepted, answered_refused}
+use borrow.Author.Tests.{ne_eqb, eq-eqb, lt-ltb, le-ltb}
+
+-- rows 9 and 20 by what the code finds
+module _ (n count : ℕ) (bytes : List ℕ) (room : ℕ) where
+  pub later_uneven : (length bytes % entry_size ≡ 0 → ⊥) → Refused Record 0 ≡ first (later_rows n count bytes room)
+  unfolding later_rows record_row refuse first
+  later_uneven f = simp (ne_eqb _ _ f)
+
+  pub later_many : length bytes % entry_size ≡ 0 → n - 1 < length bytes / entry_size → Refused Record 0 ≡ first (later_rows n count bytes room)
+  unfolding later_rows record_row refuse first
+  later_many e h = simp (eq-eqb _ _ e, lt-ltb _ _ h)
+
+  pub later_short : length bytes % entry_size ≡ 0 → length bytes / entry_size ≤ n - 1 → room < input_size count (length bytes / entry_size)
+      → Refused TextSpace 0 ≡ first (later_rows n count bytes room)
+  unfolding later_rows record_row refuse first
+  later_short e h k = simp (eq-eqb _ _ e, le-ltb _ _ h, lt-ltb _ _ k)
+
+  pub later_fine : length bytes % entry_size ≡ 0 → length bytes / entry_size ≤ n - 1 → input_size count (length bytes / entry_size) ≤ room
+      → Accepted ≡ first (later_rows n count bytes room)
+  unfolding later_rows record_row refuse first
+  later_fine e h k = simp (eq-eqb _ _ e, le-ltb _ _ h, le-ltb _ _ k)
 
 -- where rows 9 and 20 accept
 pub record Later (n count : ℕ) (bytes : List ℕ) (room : ℕ) : Type 0 where

@@ -103,14 +103,19 @@ fn find(text: &[u8], from: usize, kind: Kind) -> Option<Found>
     None
 }
 
-// What a text that was judged holds, put at the front of the room lent for it; the rest of the room stays.
-pub(crate) fn store<T: Held>(text: &[u8], room: &mut [T])
-    requires { Storable text.now (T.held (lines_of text.now)) room.old }
+// What a text that was judged holds, put at the front of the room lent for it; the rest of the room stays. It takes so many places of the room, and behind
+// the frame that fills the last of them the text is not looked at: where it holds nothing, not at all.
+pub(crate) fn store<T: Held>(text: &[u8], room: &mut [T], places: usize)
+    requires storable { Storable text.now (T.held (lines_of text.now)) room.old }
+    requires all { places ≡ length (T.held (lines_of text.now)) }
     ensures { room.new ≡ over room.old 0 (T.held (lines_of text.now)) }
 {
     let mut from = 0;
     let mut to = 0;
-    while let Some(found) = find(text, from, T::kind()) {
+    while to < places {
+        let Some(found) = find(text, from, T::kind()) else {
+            return;
+        };
         to = T::put(&text[found.at..], room, to);
         from = found.next;
     }

@@ -29,7 +29,7 @@ use Rattle.weighing.specs.declared.list.Blocks.{Blocks}
 use Rattle.weighing.specs.Moved.{Spread}
 
 -- the tallies of a pile fit where all do
-small_fits : (n : ℕ) → n ≤ 128 → (t : List ℕ) (L : Bones) → ((b : ℕ) → T (L b) → b < n) → Small n t → bulk (held t) L < 2 ^ 32
+pub small_fits : (n : ℕ) → n ≤ 128 → (t : List ℕ) (L : Bones) → ((b : ℕ) → T (L b) → b < n) → Small n t → bulk (held t) L < 2 ^ 32
 unfolding bulk
 small_fits n few t L below small =
     omega (

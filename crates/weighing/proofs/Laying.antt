@@ -10,11 +10,11 @@ use Rattle.weighing.specs.Lists.{listed, Once, marked}
 use Rattle.weighing.proofs.Listing.{bit_of, cond_yes, cond_no, listed_by, listed-place, stored, listed_ext, listed_less, unmarked_most, unmarked_tied, unmarked_head}
 use Rattle.weighing.specs.Merge.{Long, Fold, unmarked, Laid}
 
-last_or : (p n : ℕ) → p < n + 1 → (p ≡ n) ⊎ (p < n)
+pub last_or : (p n : ℕ) → p < n + 1 → (p ≡ n) ⊎ (p < n)
 last_or p n h = eq-or-lt_of_le (omega arith)
 
 -- what holds of one number more
-abbrev More : (ℕ → Type 0) → ℕ → (ℕ → Type 0) → Type 0
+abbrev pub More : (ℕ → Type 0) → ℕ → (ℕ → Type 0) → Type 0
 More P n P' = P' n × ((p : ℕ) → P p → P' p) × ((p : ℕ) → P' p → (p ≡ n) ⊎ P p)
 
 -- the places of `used` hold the bones of X, each once: every bone has its place
@@ -26,7 +26,7 @@ pub record Filled (list : List ℕ) (used X : ℕ → Type 0) : Type 0 where
 pub filled_none : (list : List ℕ) {used X : ℕ → Type 0} → ((p : ℕ) → used p → ⊥) → ((b : ℕ) → X b → ⊥) → Filled list used X
 filled_none list f g = record { place = λ b. 0; there = λ b x. absurd (g b x); back = λ p u. absurd (f p u) }
 
-filled_as : {list : List ℕ} {used used' X X' : ℕ → Type 0} → Filled list used X → ((p : ℕ) → used p → used' p) → ((p : ℕ) → used' p → used p) → ((b : ℕ) → X b → X' b) → ((b : ℕ) → X' b → X b) → Filled list used' X'
+pub filled_as : {list : List ℕ} {used used' X X' : ℕ → Type 0} → Filled list used X → ((p : ℕ) → used p → used' p) → ((p : ℕ) → used' p → used p) → ((b : ℕ) → X b → X' b) → ((b : ℕ) → X' b → X b) → Filled list used' X'
 filled_as so f g h k =
     record {
       place = so.place;

@@ -201,7 +201,7 @@ pub unmarked_most : (joins : List Bool) (m : ℕ) → unmarked joins m ≤ m
 unfolding unmarked
 unmarked_most joins m = count_most m _
 
-unmarked_next : (joins : List Bool) (m : ℕ) → unmarked joins (m + 1) ≡ unmarked joins m + cond (not (marked joins m)) 1 0
+pub unmarked_next : (joins : List Bool) (m : ℕ) → unmarked joins (m + 1) ≡ unmarked joins m + cond (not (marked joins m)) 1 0
 unfolding unmarked count
 unmarked_next joins m = sum_next m _
 

@@ -1,7 +1,7 @@
 -- Laws of degrees: one bone more is noted, and notes are lessened; and of the cut that parts one bone from its pile: what it weighs, that it is lawful, and its
 -- side as bytes.
 -- Assumes nothing.
-use Rattle.std.proofs.Common.{◌≡◌, ℕ, ◌+◌, ◌*◌, ◌%◌, ◌^◌, ◌<◌, Bool, true, false, cond, not, ◌&&◌, T, eqb, ltb, List, length, get_or, set, replicate, sym, refl, ap, ◌∙◌, ⊎_elim, zero-le, le_refl, add-zero, Some, arith, eqb→eq, ltb→lt, length-set, get_or-set_other, get_or-set_same, le-ltb, lt-ltb, eq-eqb, ne_eqb}
+use Rattle.std.proofs.Common.{◌≡◌, ℕ, ◌+◌, ◌*◌, ◌%◌, ◌^◌, ◌<◌, Bool, true, false, cond, not, ◌&&◌, T, eqb, ltb, List, length, get_or, set, replicate, sym, refl, ap, ◌∙◌, ⊎_elim, zero-le, le_refl, add-zero, Some, arith, eqb→eq, ltb→lt, length-set, get_or-set_other, get_or-set_same, le-ltb, lt-ltb, eq-eqb, ne_eqb, ◌≤◌}
 use Rattle.std.specs.Int.{from_bool}
 use mathlib.Core.Path.{fun_ext}
 use mathlib.Core.Bool.{and-false, beq}
@@ -36,6 +36,11 @@ toward_next i w S b = sum_next i _
 pub product : (x : ℕ) (t : Bool) {y : ℕ} → y ≡ from_bool t → x * y ≡ cond t x 0
 product x true e = rw e (omega arith)
 product x false e = rw e (omega arith)
+
+-- which is no more than the number
+pub product_most : (x : ℕ) (t : Bool) {y : ℕ} → y ≡ from_bool t → x * y ≤ x
+product_most x true e = rw e (omega arith)
+product_most x false e = rw e (omega arith)
 
 -- one place more is stored
 pub store_next : (f g : ℕ → ℕ) (d : List ℕ) (i v : ℕ) → i < length d → (get_or d i 0 ≡ g i → v ≡ f i) → ((b : ℕ) → get_or d b 0 ≡ cond (ltb b i) (f b) (g b)) → (b : ℕ) → get_or (set d i v) b 0 ≡ cond (ltb b (i + 1)) (f b) (g b)

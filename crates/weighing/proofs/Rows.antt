@@ -90,6 +90,17 @@ row_back {t} {t'} {t''} {a} {b} R ha hb ab added taken =
 -- ---- merges
 
 -- what a row wants of a bone and its head
+pub fold_place : {list into : List ℕ} {lo hi j s v : ℕ} → Once list hi → Fold list into lo s j s v → j < hi → (v < 128) × (get_or list j 0 < 128) × (v ≡ get_or list j 0 → ⊥) × Once list s
+fold_place {list} {j = j} {s = s} {v = v} single fold high =
+    let before = fold.upto in
+    let group = once_less {l = s} single (omega arith) in (
+      listed_low group v fold.stands,
+      single.low j high,
+      λ e. T_not (listed list s (get_or list j 0)) (listed-not single s j before high) (rw e at fold.stands),
+      group,
+    )
+
+-- what a row wants of a bone and its head
 pub grouped_at : {b : Blocks} {lo hi j : ℕ} → Once b.list hi → Fold b.list b.into lo (get_or b.start j 0) j (get_or b.start j 0) (get_or b.into j 0) → j < hi → Grouped b j
 grouped_at {b} {j = j} single fold high =
     let s = get_or b.start j 0 in

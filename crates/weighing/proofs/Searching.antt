@@ -21,7 +21,7 @@ use Rattle.weighing.proofs.Rows.{merges_low}
 use Rattle.weighing.proofs.Contracting.{weight_wide, bulk, Fresh, merged_weight, merged_fits}
 
 -- a split is the same for each bone that was merged and its head
-abbrev Even : List ℕ → List ℕ → ℕ → ℕ → Bones → Type 0
+abbrev pub Even : List ℕ → List ℕ → ℕ → ℕ → Bones → Type 0
 Even list into lo hi d = (j : ℕ) → lo ≤ j → j < hi → d (get_or into j 0) ≡ d (get_or list j 0)
 
 -- two sets of bones that agree

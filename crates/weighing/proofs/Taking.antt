@@ -29,7 +29,7 @@ same_beq a b e = rw e (taut 1 (λ c. so (beq c c)) tt b)
 pub at_bone : (P : Bones) (x y : ℕ) → T (P x) → T (eqb y x ⇒ P y)
 at_bone P x y t = imp (eqb y x) (P y) (λ e. rw (eqb→eq y x e) t)
 
-cond_out : (n : ℕ) (t : Bool) (f : ℕ → ℕ) → sum n (λ j. cond t (f j) 0) ≡ cond t (sum n f) 0
+pub cond_out : (n : ℕ) (t : Bool) (f : ℕ → ℕ) → sum n (λ j. cond t (f j) 0) ≡ cond t (sum n f) 0
 cond_out n true f = refl
 cond_out n false f = sum-zero n
 
@@ -57,7 +57,7 @@ abbrev pub Bounded : Tally → Bones → Bones → ℕ → Type 0
 Bounded w L free v = (d : Bones) (x : ℕ) → x < 128 → T (free x) → T (d v) → T (not (d x)) → tie w (taken L free) x ≤ weight 128 w (λ b. taken L free b || eqb b x) d
 
 -- no free bone has a greater tally to those taken than u
-abbrev Greatest : Tally → Bones → Bones → ℕ → Type 0
+abbrev pub Greatest : Tally → Bones → Bones → ℕ → Type 0
 Greatest w L free u = (x : ℕ) → x < 128 → T (free x) → tie w (taken L free) x ≤ tie w (taken L free) u
 
 -- nothing was taken yet

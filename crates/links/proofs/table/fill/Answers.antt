@@ -3,7 +3,7 @@ use Rattle.std.proofs.Common.{◌≡◌, sym, ◌∙◌, arith, below_more}
 use Rattle.std.proofs.lemmas.Result.{err_from_is_err_and}
 use Rattle.meaning.specs.Judge.{Accepted, first}
 use Rattle.links.specs.Links.{link_rows}
-use Rattle.links.specs.Records.{no_link}
+use Rattle.links.specs.Forms.{no_link}
 use Rattle.links.proofs.LinksRows.{link_accepted, counts_place, counts_stop, counts_next, counts_few}
 use Rattle.links.proofs.TableAdds.{added_within, taken_none, taken_next, taken-stop, taken_all, filled_none}
 use Rattle.links.proofs.table.fill.Goals as goal

@@ -3,8 +3,8 @@ use Rattle.std.proofs.Common.{◌-◌, length}
 use Rattle.texts.proofs.ReadsPut.{Storing}
 use Rattle.texts.proofs.store.store.Given as goal
 
-abbrev pub invariant-loop-found : goal.invariant-loop-found
-invariant-loop-found g l = Storing (g.T.Held.held) l.text l.initial.room l.room l.from l.to
+abbrev pub invariant-loop-to : goal.invariant-loop-to
+invariant-loop-to g l = Storing (g.T.Held.held) l.text l.initial.room l.room l.from l.to
 
-abbrev pub decreases-loop-found : goal.decreases-loop-found
-decreases-loop-found g l = length l.text - l.from
+abbrev pub decreases-loop-to : goal.decreases-loop-to
+decreases-loop-to g l = length l.text - l.from

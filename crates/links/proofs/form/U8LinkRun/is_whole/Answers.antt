@@ -2,7 +2,7 @@
 use Rattle.std.proofs.Common.{arith}
 use Rattle.std.proofs.lemmas.Bool.Decides.{nat_tests}
 use Rattle.links.specs.Links.{whole}
-use Rattle.links.proofs.form.U8LinkForm.is_whole.Goals as goal
+use Rattle.links.proofs.form.U8LinkRun.is_whole.Goals as goal
 
 pub returns : goal.returns
 unfolding whole
