@@ -1,6 +1,6 @@
 -- What the promises of judging links cite.
 pub mod Links
--- What the promises of link records cite.
+-- What the promises of links held against labels cite.
 pub mod Records
 -- What the promises over either form of links cite.
 pub mod Forms

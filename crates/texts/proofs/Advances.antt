@@ -30,7 +30,6 @@ use Rattle.texts.specs.Reader.{entry_in, found_in, links_in, entries_in, bones_i
 use Rattle.texts.specs.Walk.{byte_at, size_at}
 use Rattle.texts.specs.Judging.{Passes, Bounded, Ready, Advanced, head_from, read_from}
 use Rattle.texts.proofs.Lines.{front}
-use Rattle.texts.proofs.Walks.{well_room}
 use Rattle.texts.proofs.Rows.{row_applies, row_passes, answered_accepted, answered_refused}
 use Rattle.texts.proofs.Judging.{rest, rest_at, rows_pass, head_read, head_kept}
 use Rattle.texts.proofs.ReadsText.{bones_front, threshold_front, links_front, links_skip, entries_front, entries_skip, entry_length}

@@ -100,20 +100,11 @@ fold_place {list} {j = j} {s = s} {v = v} single fold high =
       group,
     )
 
--- what a row wants of a bone and its head
+-- the same of the blocks of a pile
 pub grouped_at : {b : Blocks} {lo hi j : ℕ} → Once b.list hi → Fold b.list b.into lo (get_or b.start j 0) j (get_or b.start j 0) (get_or b.into j 0) → j < hi → Grouped b j
-grouped_at {b} {j = j} single fold high =
-    let s = get_or b.start j 0 in
-    let v = get_or b.into j 0 in
-    let before = fold.upto in
-    let group = once_less {l = s} single (omega arith) in
-    record {
-      low = omega (arith, single.few);
-      head_low = listed_low group v fold.stands;
-      bone_low = single.low j high;
-      apart = λ e. T_not (listed b.list s (get_or b.list j 0)) (listed-not single s j before high) (rw e at fold.stands);
-      group = group;
-    }
+grouped_at single fold high =
+    let place = fold_place single fold high in
+    record { low = omega (arith, single.few); head_low = place.0; bone_low = place.1; apart = place.2; group = place.3 }
 
 -- a head stands before the bones that were merged into it
 pub before : {b : Blocks} → Stacked b → (j : ℕ) → b.count ≤ j → j < b.size → T (listed b.list j (get_or b.into j 0))

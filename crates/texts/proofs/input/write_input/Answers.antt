@@ -1,5 +1,5 @@
 -- `input::write_input` meets its contract: the links are judged, then the frames around them are written, and then the links. Assumes nothing.
-use Rattle.std.proofs.Common.{sym, ◌∙◌}
+use Rattle.std.proofs.Common.{sym, ◌∙◌, arith, length-take}
 use Rattle.std.proofs.lemmas.Result.{err_from_is_err_and}
 use Rattle.texts.proofs.WritesInput.{input_refused, counts, later_refused, links_fit, input_done}
 use Rattle.texts.proofs.input.write_input.Goals as goal
@@ -21,8 +21,11 @@ returns-in_err-length c =
 
 pub put_links-requires : goal.put_links-requires
 put_links-requires c =
+    let room =
     links_fit c.args.n c.args.k c.args.links.now c.args.bytes.now c.args.text.now (sym c.judge_records.ensures ∙ c.in_ok-judge_records.was)
     c.begin.new.text c.begin.result c.begin.ensures _ c.in_ok-length.was
+    in
+    grind (arith, length-take, room)
 
 pub returns : goal.returns
 returns c =
