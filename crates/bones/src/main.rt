@@ -23,5 +23,5 @@ impl Program for Bones {
 
 fn main(rt: HostRuntime) -> io::Result<()> {
     let mut out = [0u8; LONGEST];
-    shell::run::<Bones>(rt.stdin(), rt.stdout(), &mut out)
+    shell::run_program::<Bones>(rt.stdin(), rt.stdout(), &mut out)
 }

@@ -6,3 +6,5 @@ pub mod judge;
 pub mod record;
 pub mod records;
 pub mod table;
+#[cfg(test)]
+mod tests;

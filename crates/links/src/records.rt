@@ -7,16 +7,16 @@ ghost use Rattle.links.specs.Forms.{no_link, KeepsLinks};
 
 use crate::form::LinkForm;
 use crate::record::same_label;
-use crate::table::fill;
+use crate::table::fill_run;
 use meaning::{Link, Refusal};
 
 // Judges n, k and links lent as records, and adds the links to the table, as far as they are accepted.
-// It is `fill` over records, a form that document 01 names: whatever is lent as records fills its table here.
+// It is `fill_run` over records, a form that document 01 names: whatever is lent as records fills its table here.
 pub fn fill_records(n: u64, k: u64, links: &[Link], table: &mut [u32; 16384]) -> Result<(), Refusal>
     ensures taken { (result ≡ first (table_rows n k true links.now)) × (table.new ≡ filled result table.old links.now) }
     ensures tallies { OnOk result (EachIndex links.now (λ i. (slice_index_or links.now i no_link).tally < 2 ^ 16)) }
 {
-    fill(n, k, links, table)
+    fill_run(n, k, links, table)
 }
 
 // Rows 1 to 6 on links lent as records, for a caller that has no use for their table.

@@ -6,7 +6,7 @@ ghost use Rattle.links.specs.Links.{table_rows};
 ghost use Rattle.links.specs.Forms.{no_link};
 ghost use Rattle.links.specs.Table.{spot, held, raised, lowered, added, tallied, filled};
 
-use crate::form::LinkRun;
+use crate::form::{LinkForm, LinkRun};
 use crate::judge::{judge_counts, judge_link};
 use meaning::{Link, Refusal};
 
@@ -65,7 +65,21 @@ pub fn add_within(table: &mut [u32; 16384], l: Link)
 
 // Judges n, k and the links of a run in either form, and adds the links to the table, as far as they are accepted. Who lends the links learns that their
 // tallies have 16 bits, as their type says: so the tallies of the table do not wrap.
-pub fn fill<L: LinkRun>(
+pub fn fill<L: LinkForm>(
+    n: u64,
+    k: u64,
+    links: &[L],
+    table: &mut [u32; 16384],
+) -> Result<(), Refusal>
+    ensures value { result ≡ first (table_rows n k (L.are_whole links.now) (L.links_in links.now)) }
+    ensures table_after { table.new ≡ filled result table.old (L.links_in links.now) }
+    ensures tallies { OnOk result (EachIndex (L.links_in links.now) (λ i. (slice_index_or (L.links_in links.now) i no_link).tally < 2 ^ 16)) }
+{
+    L::fill(n, k, links, table)
+}
+
+// The same of a run, of which no more is known than how many links there are, and each of them.
+pub fn fill_run<L: LinkRun>(
     n: u64,
     k: u64,
     links: &[L],

@@ -23,5 +23,5 @@ impl Program for Thin {
 
 fn main(rt: HostRuntime) -> io::Result<()> {
     let mut out = [0u8; LONGEST];
-    shell::run::<Thin>(rt.stdin(), rt.stdout(), &mut out)
+    shell::run_program::<Thin>(rt.stdin(), rt.stdout(), &mut out)
 }

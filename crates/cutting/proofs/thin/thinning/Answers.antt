@@ -29,10 +29,10 @@ invariant_of-counts g c =
 pub overflow_cast-result : goal.overflow_cast-result
 overflow_cast-result g c =
     let f = filled_with c.fill.ensures.value c.in_ok-fill.was c.fill.ensures.table_after c.fill.ensures.tallies in
-    omega (arith, c.keep_links.ensures.0, kept_few c.name_groups-names.result (g.L.LinkRun.links_in c.args.links.now), (table_counted _ _ _ _ f.accepted).few_links)
+    omega (arith, c.keep_links.ensures.0, kept_few c.name_groups-names.result (g.L.LinkForm.links_in c.args.links.now), (table_counted _ _ _ _ f.accepted).few_links)
 
 pub returns : goal.returns
 returns g c =
     let f = filled_with c.fill.ensures.value c.in_ok-fill.was c.fill.ensures.table_after c.fill.ensures.tallies in
-    thinning_filled g.L.LinkRun.links_in g.L.LinkRun.are_whole g.L.LinkForm.written c.name_groups-names.result f c.name_groups-names.ensures
+    thinning_filled g.L.LinkForm.links_in g.L.LinkForm.are_whole g.L.LinkForm.written c.name_groups-names.result f c.name_groups-names.ensures
     (rw (← c.count.ensures, ← c.count-2.ensures) c.if-count.false) c.keep_links.ensures

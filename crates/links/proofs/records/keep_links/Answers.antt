@@ -10,16 +10,16 @@ use Rattle.links.proofs.records.keep_links.Goals.{then-same_label, else-same_lab
 
 pub loop-i-init : goal.loop-i-init
 unfolding kept_links
-loop-i-init g c = (zero-le, refl, front_nil g.L.LinkRun.links_in g.L.LinkForm.written c.args.out.now g.met.L.LinkForm.written_none)
+loop-i-init g c = (zero-le, refl, front_nil g.L.LinkForm.links_in g.L.LinkForm.written c.args.out.now g.met.L.LinkForm.written_none)
 
 pub overflow_add-kept : goal.overflow_add-kept
 overflow_add-kept g c = omega arith
 
 pub loop-i-preserved : goal.loop-i-preserved
 loop-i-preserved g c =
-    let links = g.L.LinkRun.links_in c.args.links.now in
+    let links = g.L.LinkForm.links_in c.args.links.now in
     let labels = c.args.labels.now in
-    let front_of = front g.L.LinkRun.links_in g.L.LinkForm.written c.args.out.now in
+    let front_of = front g.L.LinkForm.links_in g.L.LinkForm.written c.args.out.now in
     let most = c.loop-i.invariant.0 in
     let number = c.loop-i.invariant.1 in
     let room = c.loop-i.invariant.2 in
@@ -39,5 +39,5 @@ loop-i-preserved g c =
 
 pub returns : goal.returns
 returns g c =
-    let all = ap (kept_links c.args.labels.now) (take_all c.loop-i.i (g.L.LinkRun.links_in c.args.links.now) (omega (arith, c.loop-i-test.false, c.count-i-end.ensures))) in
-    (c.loop-i.invariant.1 ∙ ap length all, c.loop-i.invariant.2 ∙ ap (front g.L.LinkRun.links_in g.L.LinkForm.written c.args.out.now) all)
+    let all = ap (kept_links c.args.labels.now) (take_all c.loop-i.i (g.L.LinkForm.links_in c.args.links.now) (omega (arith, c.loop-i-test.false, c.count-i-end.ensures))) in
+    (c.loop-i.invariant.1 ∙ ap length all, c.loop-i.invariant.2 ∙ ap (front g.L.LinkForm.links_in g.L.LinkForm.written c.args.out.now) all)

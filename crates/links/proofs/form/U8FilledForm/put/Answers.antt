@@ -1,7 +1,7 @@
 -- `put` of links as bytes meets its contract, by whether the room takes one link more. Assumes nothing.
 use Rattle.std.proofs.Common.{◌≡◌, ◌+◌, ◌-◌, ◌*◌, ◌/◌, ◌%◌, length, ap, ◌∙◌, arith}
 use Rattle.links.proofs.FormFront.{long, bytes_next, bytes_full}
-use Rattle.links.proofs.form.U8LinkForm.put.Goals as goal
+use Rattle.links.proofs.form.U8FilledForm.put.Goals as goal
 
 pub returns-then-i-room : goal.returns-then-i-room
 returns-then-i-room c = λ was ls e f.
